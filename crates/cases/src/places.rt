@@ -5,18 +5,18 @@ use exprfmt_run::run::named;
 use rows::{with, words};
 use std::alloc::Global;
 use syn_expr::{
-    Expr, FixupContext, Level, ParseBuffer, Position, Result, Type, expr_leading_label,
+    Expr, FixupContext, ParseBuffer, Position, Precedence, Result, Type, expr_leading_label,
     expr_trailing_brace, lex, parse_str, requires_comma_to_be_match_arm, requires_semi_to_be_stmt,
     trailing_unparameterized_path,
 };
 
 /// The level of this name.
-fn level_of(name: &str) -> Level {
+fn level_of(name: &str) -> Precedence {
     macro_rules! by_name {
         ($($level:ident)*) => {
             match name {
-                $(stringify!($level) => Level::$level,)*
-                _ => Level::Unambiguous,
+                $(stringify!($level) => Precedence::$level,)*
+                _ => Precedence::Unambiguous,
             }
         };
     }
@@ -24,7 +24,7 @@ fn level_of(name: &str) -> Level {
 }
 
 /// The place on the left of an operator of this level.
-fn on_left(fixup: FixupContext, level: Level, expr: &Expr) -> FixupContext {
+fn on_left(fixup: FixupContext, level: Precedence, expr: &Expr) -> FixupContext {
     let (_, place) = fixup.leftmost_subexpression_with_operator(expr, false, false, level);
     place
 }
@@ -33,23 +33,23 @@ fn on_left(fixup: FixupContext, level: Level, expr: &Expr) -> FixupContext {
 /// `==`, as the value of `return` or of `break`, after `..`, `..=` or a `+` that is not looked at, and else the other place itself.
 fn place_in(fixup: FixupContext, word: &str, expr: &Expr) -> FixupContext {
     match word {
-        "left" => on_left(fixup, Level::Sum, expr),
-        "index" => on_left(fixup, Level::Unambiguous, expr),
+        "left" => on_left(fixup, Precedence::Sum, expr),
+        "index" => on_left(fixup, Precedence::Unambiguous, expr),
         "dot" => fixup.leftmost_subexpression_with_dot(expr).1,
-        "right" => fixup.rightmost_subexpression(expr, Level::Compare).1,
-        "jump" => fixup.rightmost_subexpression_fixup(true, false, Level::Jump),
-        "break" => fixup.rightmost_subexpression_fixup(true, true, Level::Jump),
-        "to" => fixup.rightmost_subexpression_fixup(false, true, Level::Range),
-        "closed" => fixup.rightmost_subexpression_fixup(false, false, Level::Range),
-        "operand" => fixup.rightmost_subexpression_fixup(false, false, Level::Sum),
+        "right" => fixup.rightmost_subexpression(expr, Precedence::Compare).1,
+        "jump" => fixup.rightmost_subexpression_fixup(true, false, Precedence::Jump),
+        "break" => fixup.rightmost_subexpression_fixup(true, true, Precedence::Jump),
+        "to" => fixup.rightmost_subexpression_fixup(false, true, Precedence::Range),
+        "closed" => fixup.rightmost_subexpression_fixup(false, false, Precedence::Range),
+        "operand" => fixup.rightmost_subexpression_fixup(false, false, Precedence::Sum),
         _ => fixup,
     }
 }
 
 /// The level of an operand on the right of an operator of this level, with `+` after it or not: none where two ways to ask differ.
-fn right_level(level: Level, is_before: bool, expr: &Expr) -> Option<Level> {
+fn right_level(level: Precedence, is_before: bool, expr: &Expr) -> Option<Precedence> {
     let fixup = match is_before {
-        true => on_left(FixupContext::NONE, Level::Sum, expr),
+        true => on_left(FixupContext::NONE, Precedence::Sum, expr),
         false => FixupContext::NONE,
     };
     let (told, _) = fixup.rightmost_subexpression(expr, level);
@@ -74,8 +74,8 @@ pub fn operand(alloc: Global, of: &str, expr: &Expr) -> Result<String> {
         }
     };
     match given {
-        Some(Level::Unambiguous) => words(alloc, "bare"),
-        Some(Level::Jump) => words(alloc, "in parentheses"),
+        Some(Precedence::Unambiguous) => words(alloc, "bare"),
+        Some(Precedence::Jump) => words(alloc, "in parentheses"),
         _ => words(alloc, "another level"),
     }
 }

@@ -1,12 +1,11 @@
 -- What an operation compares, and that nothing else compares.
 use Rattle.std.proofs.Common.{◌≡◌, Bool, true, false, List, [], ◌∷◌, refl, ap, sym, subst, ◌∙◌}
-use Rattle.syn_expr.specs.Prelude.{AttributeTree, binary_level, Tree, attributed_with, attributed, infixed, bin_kind, ExprBinaryOf, attrs_of, Expr, tree_of, level_of, IsEqualityOf}
+use Rattle.syn_expr.specs.Prelude.{AttributeTree, binary_level, Tree, attributed_with, attributed, infixed, bin_kind, ExprBinaryOf, attrs_of, Expr, tree_of, IsEqualityOf}
 use Rattle.syn_expr.specs.Infix as inf
-use Rattle.syn_expr.specs.Level as lev
+use Rattle.syn_expr.specs.Precedence as lev
 use Rattle.syn_expr.specs.Expr as ex
 use Rattle.syn_expr.proofs.TreeOf.{tree-Binary}
-use Rattle.syn_expr.specs.declared.precedence.Precedence.{Precedence}
-use Rattle.syn_expr.specs.declared.precedence.Precedence.TheVariants as prec
+use Rattle.syn_expr_spec.specs.declared.kinds.Precedence.{Precedence}
 use Rattle.syn_expr.proofs.Binaries.{is_binary, no_binary}
 use Rattle.lint.specs.Lint.{ComparesWithItself}
 
@@ -42,12 +41,8 @@ noticed x o test law is a b ea eb r e c =
 
 -- ---- another operator
 
-one_level : (p : Precedence) → level_of p ≡ lev.Compare → p ≡ prec.Compare
-one_level prec.Compare h = refl
-one_level _ h = absurd cc
-
-pub another : (x : Expr) (o : ExprBinaryOf Expr) (p : Precedence) → x ≡ ex.Binary o → level_of p ≡ binary_level (bin_kind o.op) → (p ≡ prec.Compare → ⊥) → ComparesWithItself (tree_of x) → ⊥
-another x o p is l none c = none (one_level p (l ∙ (found o (subst (λ y. ComparesWithItself (tree_of y)) is c)).0))
+pub another : (x : Expr) (o : ExprBinaryOf Expr) (p : Precedence) → x ≡ ex.Binary o → p ≡ binary_level (bin_kind o.op) → (p ≡ lev.Compare → ⊥) → ComparesWithItself (tree_of x) → ⊥
+another x o p is l none c = none (l ∙ (found o (subst (λ y. ComparesWithItself (tree_of y)) is c)).0)
 
 -- ---- no operation
 

@@ -1,7 +1,7 @@
 -- Comparisons of a value with itself (Rust Reference, "Comparison operators").
 use Rattle.std.specs.Prelude.{◌≡◌, ◌↔◌, ℕ, Bool, true, List}
 use Rattle.syn_expr.specs.Infix as inf
-use Rattle.syn_expr.specs.Level as lev
+use Rattle.syn_expr.specs.Precedence as lev
 use Rattle.syn_expr.specs.Prelude.{binary_level, Tree, attributed, infixed, StandsFor}
 
 -- After its attributes it is a comparison, and the same is on both sides.

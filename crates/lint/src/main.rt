@@ -7,7 +7,7 @@ ghost use Rattle.lint.specs.Lint.{ComparesWithItself, IsVerdictOn};
 
 use std::alloc::Global;
 use std::io;
-use syn_expr::{ErrorKind, Expr, Precedence, Result, parse_str};
+use syn_expr::{ErrorKind, Expr, Precedence, PrecedenceOf, Result, parse_str};
 use syn_laws::same::equal_expressions;
 
 /// Whether the same expression is on both sides of a comparison.

@@ -6,8 +6,8 @@ use Rattle.syn_tokens.specs.Tok.{Tok}
 use Rattle.syn_lower_spec.specs.Own as o
 use Rattle.syn_lower_spec.specs.PatOwn.{attributes_own}
 use Rattle.syn_expr_spec.specs.declared.kinds.Infix.{Infix}
-use Rattle.syn_expr_spec.specs.declared.kinds.Level.{Level}
-use Rattle.syn_expr_spec.specs.declared.kinds.Level.TheVariants as lev
+use Rattle.syn_expr_spec.specs.declared.kinds.Precedence.{Precedence}
+use Rattle.syn_expr_spec.specs.declared.kinds.Precedence.TheVariants as lev
 use Rattle.syn_expr_spec.specs.declared.next.Context.{Context}
 use Rattle.syn_expr_spec.specs.declared.summary.Summary.{Summary}
 use Rattle.syn_expr_spec.specs.declared.summary.Sort.TheVariants as sort
@@ -74,7 +74,7 @@ summary_clear (postfixed x k) = ap (postfix_summary k) (summary_clear x)
 summary_clear (tail b k ks) = ap (λ (n : Summary). closed_summary (is_named_trailer k) (not (base_wrapped_by k n) && n.labelled) sort.Other) (summary_clear b)
 summary_clear (frame k ks) = refl
 
-place_clear : (v : Level) (c : Context) (t : Tree) → place_asks v c (clear t) ≡ place_asks v c t
+place_clear : (v : Precedence) (c : Context) (t : Tree) → place_asks v c (clear t) ≡ place_asks v c t
 place_clear v c t = sym (summaries_are_right.at_place v c (clear t)) ∙ ap (place_by v c) (summary_clear t) ∙ summaries_are_right.at_place v c t
 
 left_clear : (k : Infix) (c : Context) (t : Tree) → left_asks k (left_context k c) (clear t) ≡ left_asks k (left_context k c) t

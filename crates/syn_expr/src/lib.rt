@@ -11,7 +11,7 @@ pub mod well_formed;
 
 pub use laws::read_back;
 pub use laws::read_back_before;
-pub use precedence::Precedence;
+pub use precedence::PrecedenceOf;
 pub use print::Position;
 pub use print::expr_to_text;
 pub use print::print_counted;
@@ -104,7 +104,7 @@ pub use syn_expr_fixup::FixupContext;
 pub use syn_expr_fixup::fixup;
 pub use syn_expr_flatten::flatten;
 pub use syn_expr_flatten::flatten_in_place;
-pub use syn_expr_spec::kinds::Level;
+pub use syn_expr_spec::kinds::Precedence;
 pub use syn_expr_spec::next::Context;
 pub use syn_expr_tokens::op;
 pub use syn_lower::Abi;

@@ -6,7 +6,7 @@ use Rattle.syn_tokens.specs.Tok.{Tok}
 use Rattle.syn_lower_spec.specs.Tree.{AttributeTree}
 use Rattle.syn_lower_spec.specs.PatOwn.{attributes_own}
 use Rattle.syn_pat.proofs.Appends.{attributes_append}
-use Rattle.syn_expr_spec.specs.declared.kinds.Level.TheVariants as lev
+use Rattle.syn_expr_spec.specs.declared.kinds.Precedence.TheVariants as lev
 use Rattle.syn_expr_spec.specs.declared.next.Next.TheVariants as next
 use Rattle.syn_expr_spec.specs.Next.{enclosed}
 use Rattle.syn_expr_spec.specs.Rule.{put, place_asks, refuses, misplaced}

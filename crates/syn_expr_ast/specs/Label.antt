@@ -4,8 +4,8 @@ use Rattle.syn_lower_spec.specs.Mark.{sign_at}
 use Rattle.syn_lower_spec.specs.Ends as t
 use Rattle.syn_expr_spec.specs.declared.kinds.Infix.{Infix}
 use Rattle.syn_expr_spec.specs.declared.kinds.Infix.TheVariants as inf
-use Rattle.syn_expr_spec.specs.declared.kinds.Level.{Level}
-use Rattle.syn_expr_spec.specs.declared.kinds.Level.TheVariants as lev
+use Rattle.syn_expr_spec.specs.declared.kinds.Precedence.{Precedence}
+use Rattle.syn_expr_spec.specs.declared.kinds.Precedence.TheVariants as lev
 use Rattle.syn_expr_spec.specs.declared.next.Next.{Next}
 use Rattle.syn_expr_spec.specs.declared.next.Next.TheVariants as next
 use Rattle.syn_expr_spec.specs.declared.summary.Sort.{Sort}
@@ -113,7 +113,7 @@ leaf_refuses leafs.Jump n = begins_next n
 leaf_refuses leafs.Break n = begins_next n && not (is_block_next n)
 leaf_refuses _ n = false
 
-abbrev pub prefix_level : PrefixKind → Level
+abbrev pub prefix_level : PrefixKind → Precedence
 prefix_level prefixes.Operator = lev.Prefix
 prefix_level (prefixes.RangeTo op) = lev.Range
 prefix_level prefixes.Let = lev.Let

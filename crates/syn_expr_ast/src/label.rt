@@ -5,7 +5,7 @@ ghost use Rattle.syn_expr_ast.specs.Label as spec;
 ghost use Rattle.syn_expr_spec.specs.Tree as e;
 
 use crate::node::HasKind;
-use syn_expr_spec::kinds::{Infix, Level, Limits};
+use syn_expr_spec::kinds::{Infix, Limits, Precedence};
 use syn_expr_spec::summary::Sort;
 
 /// What is closed at both ends and holds no expression, and what has no operand.
@@ -167,14 +167,14 @@ impl LeafKind {
 
 impl PrefixKind {
     /// The level of the place of its operand.
-    pub fn level(self) -> Level
+    pub fn level(self) -> Precedence
         ensures { result ≡ spec.prefix_level self }
     {
         match self {
-            PrefixKind::Operator => Level::Prefix,
-            PrefixKind::RangeTo(_) => Level::Range,
-            PrefixKind::Let => Level::Let,
-            PrefixKind::Jump | PrefixKind::Break { .. } | PrefixKind::Closure => Level::Jump,
+            PrefixKind::Operator => Precedence::Prefix,
+            PrefixKind::RangeTo(_) => Precedence::Range,
+            PrefixKind::Let => Precedence::Let,
+            PrefixKind::Jump | PrefixKind::Break { .. } | PrefixKind::Closure => Precedence::Jump,
         }
     }
 

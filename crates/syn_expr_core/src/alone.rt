@@ -32,7 +32,7 @@ use syn_expr_heads::word::{async_word, maybe_label, move_word};
 use syn_expr_parse::known::{PLAIN, at};
 use syn_expr_parse::lists::Lists;
 use syn_expr_parse::operands::Grammar;
-use syn_expr_spec::kinds::Level;
+use syn_expr_spec::kinds::Precedence;
 use syn_expr_tokens::op::UnOp;
 use syn_lower::attr::Attribute;
 use syn_lower::ty::{BoundLifetimes, PointerMutability, Type};
@@ -159,7 +159,7 @@ fn reference(input: &mut ParseBuffer<'_>) -> Result<ExprReference>
         return Err(input.error(ErrorKind::ExpectedToken(Expected::One(And::wanted()))));
     };
     let mutability = mutable(input);
-    let expr = expr_at(input, at(PLAIN, Level::Prefix))?;
+    let expr = expr_at(input, at(PLAIN, Precedence::Prefix))?;
     Ok(ExprReference {
         attrs,
         and_token,

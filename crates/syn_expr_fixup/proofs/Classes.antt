@@ -5,7 +5,7 @@ use Rattle.std.proofs.Math.Bool.{and-false}
 use Rattle.syn_expr_spec.specs.declared.kinds.BinKind.TheVariants as bin
 use Rattle.syn_expr_spec.specs.declared.kinds.Infix.{Infix}
 use Rattle.syn_expr_spec.specs.declared.kinds.Infix.TheVariants as inf
-use Rattle.syn_expr_spec.specs.declared.kinds.Level.{Level}
+use Rattle.syn_expr_spec.specs.declared.kinds.Precedence.{Precedence}
 use Rattle.syn_expr_spec.specs.declared.next.Context.{Context}
 use Rattle.syn_expr_spec.specs.declared.next.Next.{Next}
 use Rattle.syn_expr_spec.specs.declared.next.Next.TheVariants as next
@@ -58,25 +58,25 @@ is_like inf.Assign = (refl, refl)
 is_like (inf.Range op) = (refl, refl)
 is_like inf.Cast = (refl, refl)
 
-fits_like : (k : Infix) (v : Level) (b g : Bool) → Fits k v b g → IsLike (operator_at v b g) k
+fits_like : (k : Infix) (v : Precedence) (b g : Bool) → Fits k v b g → IsLike (operator_at v b g) k
 fits_like k v b g (p, q, r) = rw (sym p, sym q, sym r) (is_like k)
 
-pub same_class : (k o : Infix) (v : Level) (b g : Bool) → Fits k v b g → operator_at v b g ≡ Some o → class_of o ≡ class_of k
+pub same_class : (k o : Infix) (v : Precedence) (b g : Bool) → Fits k v b g → operator_at v b g ≡ Some o → class_of o ≡ class_of k
 same_class k o v b g f h = let a : IsLike (Some o) k = subst (λ r. IsLike r k) h (fits_like k v b g f) in a.0
 
-pub same_comparison : (k o : Infix) (v : Level) (b g : Bool) → Fits k v b g → operator_at v b g ≡ Some o → is_comparison o ≡ is_comparison k
+pub same_comparison : (k o : Infix) (v : Precedence) (b g : Bool) → Fits k v b g → operator_at v b g ≡ Some o → is_comparison o ≡ is_comparison k
 same_comparison k o v b g f h = let a : IsLike (Some o) k = subst (λ r. IsLike r k) h (fits_like k v b g f) in a.1
 
-pub none_fits : (k : Infix) (v : Level) (b g : Bool) → Fits k v b g → operator_at v b g ≡ None → ⊥
+pub none_fits : (k : Infix) (v : Precedence) (b g : Bool) → Fits k v b g → operator_at v b g ≡ None → ⊥
 none_fits k v b g f h = subst (λ r. IsLike r k) h (fits_like k v b g f)
 
 -- ---- operands
 
-pub left_level : (k o : Infix) (v : Level) (b g : Bool) (t : Tree) → Fits k v b g → operator_at v b g ≡ Some o
+pub left_level : (k o : Infix) (v : Precedence) (b g : Bool) (t : Tree) → Fits k v b g → operator_at v b g ≡ Some o
     → left_wrapped_by o (summary_of t) ≡ left_wrapped k t (bad t (class_of k))
 left_level k o v b g t f h = let a = same_class k o v b g f h in let c = same_comparison k o v b g f h in rw (sym a, sym c) (left_same o (summary_of t) t (summarized t))
 
-pub left_place : (k o : Infix) (v : Level) (b g : Bool) (c : Context) → Fits k v b g → operator_at v b g ≡ Some o → left_context o c ≡ left_context k c
+pub left_place : (k o : Infix) (v : Precedence) (b g : Bool) (c : Context) → Fits k v b g → operator_at v b g ≡ Some o → left_context o c ≡ left_context k c
 left_place k o v b g c f h = let a = same_class k o v b g f h in rw a refl
 
 pub base_level : (k : Trailer) (t : Tree) → base_wrapped_by k (summary_of t) ≡ base_wrapped k t (bad t (next_of k))
@@ -98,7 +98,7 @@ dot_place (e.field m) c h = refl
 dot_place e.await c h = refl
 dot_place e.try_expr c h = absurd cc
 
-pub place_level : (v : Level) (n : Next) (t : Tree) → wrapped_by v (summary_of t) n ≡ place_wrapped v t n (low t) (bad t n)
+pub place_level : (v : Precedence) (n : Next) (t : Tree) → wrapped_by v (summary_of t) n ≡ place_wrapped v t n (low t) (bad t n)
 place_level v n t = wrapped_same v (summary_of t) t n (summarized t)
 
 -- ---- a brace after a node is no operator and no trailer: what must not have it after it refuses it itself

@@ -4,7 +4,7 @@ use Rattle.std.proofs.Common.{◌≡◌, ℕ, zero, suc, ◌+◌, ◌^◌, ◌<�
 use Rattle.std.specs.Int.{bit_at}
 use Rattle.std.proofs.lemmas.Nat.{and_le_l, or_lt}
 use Rattle.std.proofs.lemmas.Nat.Bits.{bit_at-lt, bit_at_and, bit_at_or, same_from_bits_below}
-use Rattle.syn_expr_spec.specs.declared.kinds.Level.{Level}
+use Rattle.syn_expr_spec.specs.declared.kinds.Precedence.{Precedence}
 use Rattle.syn_expr_spec.specs.declared.next.Next.{Next}
 use Rattle.syn_expr_spec.specs.declared.next.Next.TheVariants as next
 use Rattle.syn_expr_spec.specs.declared.summary.Summary.{Summary}
@@ -112,10 +112,10 @@ widened_has false s n = refl
 
 -- ---- what the owner of a place must not have after it
 
-abbrev pub wrapped_by_set : Level → Summary → Bool → ℕ
+abbrev pub wrapped_by_set : Precedence → Summary → Bool → ℕ
 wrapped_by_set v x always = if not (takes v x.low) || always then 0xff_ffff else x.ends
 
-abbrev pub end_by_set : ℕ → Level → Summary → ℕ
+abbrev pub end_by_set : ℕ → Precedence → Summary → ℕ
 end_by_set w v x =
     bit_or (bit_and (set_of (takes_next v)) (if not x.range then 0xff_ffff else w)) (bit_and 0x3c_0000 (if x.carries then 0xff_ffff else w))
 
@@ -129,7 +129,7 @@ set_small : (f : Next → Bool) → set_of f < 2 ^ 24
 unfolding set_of
 set_small f = bits_small f classes
 
-end_small : (v : Level) (x : Summary) (w : ℕ) → end_by_set w v x < 2 ^ 24
+end_small : (v : Precedence) (x : Summary) (w : ℕ) → end_by_set w v x < 2 ^ 24
 end_small v x w =
     let a = if not x.range then 0xff_ffff else w in
     let b = if x.carries then 0xff_ffff else w in
@@ -138,7 +138,7 @@ end_small v x w =
     let s = set_small (takes_next v) in
     or_lt 24 (bit_and (set_of (takes_next v)) a) (bit_and 0x3c_0000 b) (omega arith) (omega arith)
 
-end_has : (v : Level) (x : Summary) (w : ℕ) (n : Next) → has (end_by_set w v x) n ≡ end_by v x n (has w n)
+end_has : (v : Precedence) (x : Summary) (w : ℕ) (n : Next) → has (end_by_set w v x) n ≡ end_by v x n (has w n)
 end_has v x w n =
     let a = if not x.range then 0xff_ffff else w in
     let b = if x.carries then 0xff_ffff else w in
@@ -154,13 +154,13 @@ end_has v x w n =
       or_comm x.carries (has w n),
     ) refl
 
-pub ends_are : (v : Level) (x : Summary) (always : Bool)
+pub ends_are : (v : Precedence) (x : Summary) (always : Bool)
     → end_by_set (wrapped_by_set v x always) v x ≡ set_of (λ n. end_by v x n (wrapped_by v x n || always))
 ends_are v x always = set_is _ _ (end_small v x (wrapped_by_set v x always))
     (λ n. end_has v x (wrapped_by_set v x always) n ∙ ap (end_by v x n) (wrapped_has (not (takes v x.low)) always x.ends n))
 
 -- where it is put in parentheses for its ends alone
-pub plain_ends : (v : Level) (x : Summary)
+pub plain_ends : (v : Precedence) (x : Summary)
     → set_of (λ n. end_by v x n (wrapped_by v x n || false)) ≡ set_of (λ n. end_by v x n (wrapped_by v x n))
 plain_ends v x =
     let f = λ (n : Next). end_by v x n (wrapped_by v x n || false) in

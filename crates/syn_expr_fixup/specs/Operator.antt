@@ -3,12 +3,12 @@ use Rattle.std.specs.Prelude.{Bool, if◌then◌else◌, Option, Some, None}
 use Rattle.syn_expr_spec.specs.declared.kinds.BinKind.TheVariants as bin
 use Rattle.syn_expr_spec.specs.declared.kinds.Infix.{Infix}
 use Rattle.syn_expr_spec.specs.declared.kinds.Infix.TheVariants as inf
-use Rattle.syn_expr_spec.specs.declared.kinds.Level.{Level}
-use Rattle.syn_expr_spec.specs.declared.kinds.Level.TheVariants as lev
+use Rattle.syn_expr_spec.specs.declared.kinds.Precedence.{Precedence}
+use Rattle.syn_expr_spec.specs.declared.kinds.Precedence.TheVariants as lev
 use Rattle.syn_expr_spec.specs.declared.kinds.Limits.TheVariants as limits
 
 -- `b`: an expression; `g`: generic arguments
-abbrev pub operator_at : Level → Bool → Bool → Option Infix
+abbrev pub operator_at : Precedence → Bool → Bool → Option Infix
 operator_at lev.Assign b g = Some (if g then inf.Binary bin.ShlAssign else inf.Assign)
 operator_at lev.Range b g = Some (inf.Range limits.HalfOpen)
 operator_at lev.Or b g = Some (inf.Binary bin.Or)

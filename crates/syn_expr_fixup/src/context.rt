@@ -11,7 +11,7 @@ ghost use Rattle.syn_expr_spec.specs.Place.{takes};
 ghost use Rattle.syn_expr_spec.specs.Rule as rule;
 
 use syn_expr_ast::label::{LeafKind, PieceKind, PostfixKind, PrefixKind, TrailerKind};
-use syn_expr_spec::kinds::{BinKind, Infix, Level, Limits};
+use syn_expr_spec::kinds::{BinKind, Infix, Limits, Precedence};
 use syn_expr_spec::next::{Context, Edge, Next};
 use syn_expr_spec::summary::{Sort, Summary};
 use syn_expr_tokens::op::{is_comparison, takes};
@@ -250,27 +250,27 @@ pub fn has(set: u32, next: Next) -> bool
 
 /// The operators that a place of the level takes.
 #[tactic(auto, unfolding(syn_expr_spec::specs::Summaries::set_of))]
-pub fn taken_set(level: Level) -> u32
+pub fn taken_set(level: Precedence) -> u32
     ensures { result ≡ summaries_spec.set_of (spec.takes_next level) }
 {
     match level {
-        Level::Jump | Level::Assign => 0x3_fffe,
-        Level::Range => 0x3_fff0,
-        Level::Or => 0x3_ffe0,
-        Level::And | Level::Let => 0x3_ffc0,
-        Level::Compare => 0x3_ff00,
-        Level::BitOr => 0x3_fe00,
-        Level::BitXor => 0x3_fc00,
-        Level::BitAnd => 0x3_f800,
-        Level::Shift => 0x3_e000,
-        Level::Sum => 0x3_8000,
-        Level::Product => 0x2_0000,
-        Level::Cast | Level::Prefix | Level::Unambiguous => 0,
+        Precedence::Jump | Precedence::Assign => 0x3_fffe,
+        Precedence::Range => 0x3_fff0,
+        Precedence::Or => 0x3_ffe0,
+        Precedence::And | Precedence::Let => 0x3_ffc0,
+        Precedence::Compare => 0x3_ff00,
+        Precedence::BitOr => 0x3_fe00,
+        Precedence::BitXor => 0x3_fc00,
+        Precedence::BitAnd => 0x3_f800,
+        Precedence::Shift => 0x3_e000,
+        Precedence::Sum => 0x3_8000,
+        Precedence::Product => 0x2_0000,
+        Precedence::Cast | Precedence::Prefix | Precedence::Unambiguous => 0,
     }
 }
 
 /// The classes before which the occupant of a place is in parentheses: every one, where it is `always`.
-fn wrapped_set(level: Level, x: Summary, always: bool) -> u32
+fn wrapped_set(level: Precedence, x: Summary, always: bool) -> u32
     ensures { result ≡ (if not (takes level x.low) || always then 0xff_ffff else x.ends) }
 {
     if !takes(level, x.low) || always {
@@ -290,7 +290,7 @@ fn widened(set: u32, every: bool) -> u32
 /// What the owner of a place must not have after it, by the summary of its occupant: an operator that the place takes, unless
 /// a bare range is there, or a trailer that the occupant could carry. The occupant is in parentheses before a class
 /// that it must not have after it, and `always` where it does for what it is.
-pub fn end_set(level: Level, x: Summary, always: bool) -> u32
+pub fn end_set(level: Precedence, x: Summary, always: bool) -> u32
     ensures { result ≡ summaries_spec.set_of (λ n. summaries_spec.end_by level x n (summaries_spec.wrapped_by level x n || always)) }
 {
     let wrapped = wrapped_set(level, x, always);
@@ -363,22 +363,22 @@ pub fn class_of(op: Infix) -> Next
 }
 
 /// The level of an operator of the class, none where it is no operator.
-pub fn level_of(next: Next) -> Option<Level>
+pub fn level_of(next: Next) -> Option<Precedence>
     ensures { result ≡ spec.level_of next }
 {
     match next {
-        Next::Assign | Next::ShiftLeftAssign => Some(Level::Assign),
-        Next::Range => Some(Level::Range),
-        Next::OrOr => Some(Level::Or),
-        Next::AndAnd => Some(Level::And),
-        Next::Compare | Next::Less => Some(Level::Compare),
-        Next::Or => Some(Level::BitOr),
-        Next::Caret => Some(Level::BitXor),
-        Next::And => Some(Level::BitAnd),
-        Next::ShiftLeft | Next::ShiftRight => Some(Level::Shift),
-        Next::Plus | Next::Minus => Some(Level::Sum),
-        Next::Star | Next::Divide => Some(Level::Product),
-        Next::As => Some(Level::Cast),
+        Next::Assign | Next::ShiftLeftAssign => Some(Precedence::Assign),
+        Next::Range => Some(Precedence::Range),
+        Next::OrOr => Some(Precedence::Or),
+        Next::AndAnd => Some(Precedence::And),
+        Next::Compare | Next::Less => Some(Precedence::Compare),
+        Next::Or => Some(Precedence::BitOr),
+        Next::Caret => Some(Precedence::BitXor),
+        Next::And => Some(Precedence::BitAnd),
+        Next::ShiftLeft | Next::ShiftRight => Some(Precedence::Shift),
+        Next::Plus | Next::Minus => Some(Precedence::Sum),
+        Next::Star | Next::Divide => Some(Precedence::Product),
+        Next::As => Some(Precedence::Cast),
         Next::End
         | Next::Dot
         | Next::Question
@@ -390,7 +390,7 @@ pub fn level_of(next: Next) -> Option<Level>
 }
 
 /// Whether a place of the level takes an operator of the class.
-pub fn takes_next(level: Level, next: Next) -> bool
+pub fn takes_next(level: Precedence, next: Next) -> bool
     ensures { result ≡ spec.takes_next level next }
 {
     match level_of(next) {
@@ -526,7 +526,7 @@ pub fn misplaced_by(context: Context, sort: Sort) -> bool
 
 /// Whether the occupant of a place of the level is wrapped for its ends: an operator on its bare left edge is not above the
 /// place, or its right end takes what follows.
-pub fn wrapped_by(level: Level, x: Summary, next: Next) -> bool
+pub fn wrapped_by(level: Precedence, x: Summary, next: Next) -> bool
     ensures { result ≡ summaries_spec.wrapped_by level x next }
 {
     !takes(level, x.low) || has(x.ends, next)
@@ -562,7 +562,7 @@ pub fn base_wrapped_by(trailer: TrailerKind, x: Summary) -> bool
 }
 
 /// Whether the occupant of a place of the level is put in parentheses.
-pub fn place_by(level: Level, context: Context, x: Summary) -> bool
+pub fn place_by(level: Precedence, context: Context, x: Summary) -> bool
     ensures { result ≡ summaries_spec.place_by level context x }
 {
     wrapped_by(level, x, context.next) || misplaced_by(context, x.sort)

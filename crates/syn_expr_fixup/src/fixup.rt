@@ -7,7 +7,7 @@ ghost use Rattle.syn_expr_spec.specs.Rule.{bad, base_wrapped, left_wrapped, low,
 ghost use Rattle.syn_expr_spec.specs.Tree as e;
 ghost use Rattle.syn_expr_spec.specs.Tree.{Prefix, Trailer};
 ghost use Rattle.syn_expr_spec.specs.declared.kinds.Infix.{Infix};
-ghost use Rattle.syn_expr_spec.specs.declared.kinds.Level.TheVariants as lev;
+ghost use Rattle.syn_expr_spec.specs.declared.kinds.Precedence.TheVariants as lev;
 ghost use Rattle.syn_expr_spec.specs.declared.next.Next.TheVariants as next;
 ghost use Rattle.syn_expr_fixup.specs.Fixup.{Fits, is_jump, is_optional, level_if, parenthesized, whole_at};
 ghost use Rattle.syn_expr_fixup.specs.Operator.{operator_at};
@@ -20,7 +20,7 @@ use crate::summary_of;
 use std::marker::Model;
 use syn_expr_ast::label::TrailerKind;
 use syn_expr_ast::node::{HasKind, HasNode};
-use syn_expr_spec::kinds::{BinKind, Infix, Level, Limits};
+use syn_expr_spec::kinds::{BinKind, Infix, Limits, Precedence};
 use syn_expr_spec::next::{Context, Edge, Next};
 
 /// Where an expression is printed: what is round it and after it, and how tightly it has to bind there.
@@ -32,7 +32,7 @@ use syn_expr_spec::next::{Context, Edge, Next};
 #[derive(Clone, Copy)]
 pub struct FixupContext {
     context: Context,
-    level: Level,
+    level: Precedence,
 }
 
 impl Model for FixupContext {
@@ -46,65 +46,65 @@ impl Model for FixupContext {
 }
 
 /// The level that answers a question about an operand: the lowest where it is put in parentheses, else the highest.
-fn level_if(wrapped: bool) -> Level
+fn level_if(wrapped: bool) -> Precedence
     ensures { result ≡ level_if wrapped }
 {
     if wrapped {
-        Level::Jump
+        Precedence::Jump
     } else {
-        Level::Unambiguous
+        Precedence::Unambiguous
     }
 }
 
 /// An operator of the level, whose first token begins an expression or generic arguments as is said; none for a level of no
 /// infix operator.
-fn operator_by(level: Level, can_begin_expr: bool, can_begin_generics: bool) -> Option<Infix>
+fn operator_by(level: Precedence, can_begin_expr: bool, can_begin_generics: bool) -> Option<Infix>
     ensures { result ≡ operator_at level can_begin_expr can_begin_generics }
 {
     match level {
-        Level::Assign => {
+        Precedence::Assign => {
             if can_begin_generics {
                 Some(Infix::Binary(BinKind::ShlAssign))
             } else {
                 Some(Infix::Assign)
             }
         }
-        Level::Range => Some(Infix::Range(Limits::HalfOpen)),
-        Level::Or => Some(Infix::Binary(BinKind::Or)),
-        Level::And => Some(Infix::Binary(BinKind::And)),
-        Level::Compare => {
+        Precedence::Range => Some(Infix::Range(Limits::HalfOpen)),
+        Precedence::Or => Some(Infix::Binary(BinKind::Or)),
+        Precedence::And => Some(Infix::Binary(BinKind::And)),
+        Precedence::Compare => {
             Some(Infix::Binary(if can_begin_expr {
                 BinKind::Lt
             } else {
                 BinKind::Eq
             }))
         }
-        Level::BitOr => Some(Infix::Binary(BinKind::BitOr)),
-        Level::BitXor => Some(Infix::Binary(BinKind::BitXor)),
-        Level::BitAnd => Some(Infix::Binary(BinKind::BitAnd)),
-        Level::Shift => {
+        Precedence::BitOr => Some(Infix::Binary(BinKind::BitOr)),
+        Precedence::BitXor => Some(Infix::Binary(BinKind::BitXor)),
+        Precedence::BitAnd => Some(Infix::Binary(BinKind::BitAnd)),
+        Precedence::Shift => {
             Some(Infix::Binary(if can_begin_expr {
                 BinKind::Shl
             } else {
                 BinKind::Shr
             }))
         }
-        Level::Sum => {
+        Precedence::Sum => {
             Some(Infix::Binary(if can_begin_expr {
                 BinKind::Sub
             } else {
                 BinKind::Add
             }))
         }
-        Level::Product => {
+        Precedence::Product => {
             Some(Infix::Binary(if can_begin_expr {
                 BinKind::Mul
             } else {
                 BinKind::Div
             }))
         }
-        Level::Cast => Some(Infix::Cast),
-        Level::Jump | Level::Let | Level::Prefix | Level::Unambiguous => None,
+        Precedence::Cast => Some(Infix::Cast),
+        Precedence::Jump | Precedence::Let | Precedence::Prefix | Precedence::Unambiguous => None,
     }
 }
 
@@ -125,7 +125,7 @@ impl FixupContext {
             edge: Edge::Free,
             next: Next::End,
         },
-        level: Level::Jump,
+        level: Precedence::Jump,
     };
 
     /// At the head of a statement (Rust Reference, "Expression statements").
@@ -136,7 +136,7 @@ impl FixupContext {
     {
         FixupContext {
             context: in_statement(),
-            level: Level::Jump,
+            level: Precedence::Jump,
         }
     }
 
@@ -148,7 +148,7 @@ impl FixupContext {
     {
         FixupContext {
             context: in_arm(),
-            level: Level::Jump,
+            level: Precedence::Jump,
         }
     }
 
@@ -160,7 +160,7 @@ impl FixupContext {
     {
         FixupContext {
             context: in_condition(),
-            level: Level::Jump,
+            level: Precedence::Jump,
         }
     }
 
@@ -184,8 +184,8 @@ impl FixupContext {
         expr: &E,
         next_operator_can_begin_expr: bool,
         next_operator_can_begin_generics: bool,
-        precedence: Level,
-    ) -> (Level, FixupContext)
+        precedence: Precedence,
+    ) -> (Precedence, FixupContext)
         ensures level { (k : Infix) → Fits k precedence next_operator_can_begin_expr next_operator_can_begin_generics
             → result.0 ≡ level_if (left_wrapped k (E.tree expr.now) (bad (E.tree expr.now) (class_of k))) }
         ensures place { (k : Infix) → Fits k precedence next_operator_can_begin_expr next_operator_can_begin_generics
@@ -228,14 +228,14 @@ impl FixupContext {
     pub fn leftmost_subexpression_with_dot<E: HasNode + HasKind>(
         self,
         expr: &E,
-    ) -> (Level, FixupContext)
+    ) -> (Precedence, FixupContext)
         ensures level { (k : Trailer) → spec.next_of k ≡ next.Dot → result.0 ≡ level_if (base_wrapped k (E.tree expr.now) (bad (E.tree expr.now) next.Dot)) }
         ensures place { (k : Trailer) → spec.next_of k ≡ next.Dot → result.1.context ≡ base_context k self.context }
         ensures bound { result.1.level ≡ lev.Unambiguous }
     {
         let place = FixupContext {
             context: base_context(TrailerKind::Await, self.context),
-            level: Level::Unambiguous,
+            level: Precedence::Unambiguous,
         };
         (
             level_if(base_wrapped_by(TrailerKind::Await, summary_of(expr))),
@@ -251,8 +251,8 @@ impl FixupContext {
     pub fn rightmost_subexpression<E: HasNode + HasKind>(
         self,
         expr: &E,
-        precedence: Level,
-    ) -> (Level, FixupContext)
+        precedence: Precedence,
+    ) -> (Precedence, FixupContext)
         ensures level { result.0 ≡ level_if (place_wrapped precedence (E.tree expr.now) self.context.next (low (E.tree expr.now)) (bad (E.tree expr.now) self.context.next)) }
         ensures place { (k : Infix) → is_half_open k ≡ false → result.1.context ≡ right_context k self.context }
         ensures bound { result.1.level ≡ precedence }
@@ -271,7 +271,7 @@ impl FixupContext {
         self,
         reset_allow_struct: bool,
         optional_operand: bool,
-        precedence: Level,
+        precedence: Precedence,
     ) -> FixupContext
         ensures right { (k : Infix) → reset_allow_struct ≡ false → optional_operand ≡ is_half_open k → result.context ≡ right_context k self.context }
         ensures prefix { (k : Prefix) → reset_allow_struct ≡ is_jump k → optional_operand ≡ is_optional k → result.context ≡ prefix_context k self.context }
@@ -296,7 +296,7 @@ impl FixupContext {
     ///
     /// After `-`, `(a - b)` needs its parentheses; `a * b` none.
     #[tactic(auto, using(crate::proofs::Classes::operands))]
-    pub fn rightmost_subexpression_precedence<E: HasNode + HasKind>(self, expr: &E) -> Level
+    pub fn rightmost_subexpression_precedence<E: HasNode + HasKind>(self, expr: &E) -> Precedence
         ensures { result ≡ level_if (place_wrapped self.level (E.tree expr.now) self.context.next (low (E.tree expr.now)) (bad (E.tree expr.now) self.context.next)) }
     {
         level_if(wrapped_by(self.level, summary_of(expr), self.context.next))

@@ -4,7 +4,7 @@
 ghost use Rattle.std.specs.Prelude.{◌≡◌, ◌+◌, ◌-◌, ◌^◌, ◌&&◌, min, not, if◌then◌else◌, ◌++◌, ◌∷◌, IfOk, OnOk, [], false};
 ghost use Rattle.syn_expr_spec.specs.Summaries as spec;
 ghost use Rattle.syn_expr_spec.specs.Tree.{Leaf, Prefix, Postfix, Trailer, Frame, Tree};
-ghost use Rattle.syn_expr_spec.specs.declared.kinds.Level.TheVariants as lev;
+ghost use Rattle.syn_expr_spec.specs.declared.kinds.Precedence.TheVariants as lev;
 ghost use Rattle.syn_expr_ast.specs.Label.{leaf_kind, prefix_kind, postfix_kind, trailer_kind, frame_kind, tail_summary, frame_summary, kind_at};
 ghost use Rattle.syn_expr_fixup.specs.Below.{guard_at, AreFirst, operands_below, operands_visited, backwards, total, field_below, field_visited, option_below, option_visited, arm_below, arm_visited, plain_summary, summarized_behind};
 ghost use Rattle.syn_lower_leaves.specs.View.{mapped, values};
@@ -23,7 +23,7 @@ use std::alloc::AllocError;
 use syn_expr_ast::label::{FrameKind, LeafKind, NodeKind, PostfixKind, PrefixKind, TrailerKind};
 use syn_expr_ast::node::{Attributes, HasKind, HasNode, Operands};
 use syn_expr_ast::structure::FieldValueOf;
-use syn_expr_spec::kinds::{Infix, Level};
+use syn_expr_spec::kinds::{Infix, Precedence};
 use syn_expr_spec::summary::{Sort, Summary};
 use syn_expr_tokens::op::{is_comparison, is_range_op, level, lower};
 use syn_lower_leaves::punctuated::Punctuated;
@@ -41,7 +41,7 @@ pub fn closed_summary(named_field: bool, labelled: bool, sort: Sort) -> Summary
     ensures { result ≡ spec.closed_summary named_field labelled sort }
 {
     Summary {
-        low: Level::Unambiguous,
+        low: Precedence::Unambiguous,
         ends: 0,
         operation: false,
         range: false,
@@ -60,7 +60,7 @@ pub fn leaf_summary(kind: LeafKind) -> Summary
 {
     let range = kind.is_range();
     Summary {
-        low: Level::Unambiguous,
+        low: Precedence::Unambiguous,
         ends: leaf_ends(kind),
         operation: range,
         range,
@@ -88,7 +88,7 @@ pub fn attributed_summary(x: Summary) -> Summary
     ensures { result ≡ spec.attributed_summary x }
 {
     Summary {
-        low: Level::Unambiguous,
+        low: Precedence::Unambiguous,
         ends: if x.operation { 0 } else { x.ends },
         operation: false,
         range: false,
@@ -112,7 +112,7 @@ pub fn prefix_summary(kind: PrefixKind, x: Summary) -> Summary
     let range = kind.is_range();
     let carries = kind.carries();
     Summary {
-        low: Level::Unambiguous,
+        low: Precedence::Unambiguous,
         ends: end_set(kind.level(), x, takes_label(kind, x)),
         operation: range,
         range,
@@ -126,10 +126,14 @@ pub fn prefix_summary(kind: PrefixKind, x: Summary) -> Summary
 }
 
 /// The lowest operator on the left edge of a first operand.
-fn first_low(x: Summary, wrapped: bool) -> Level
+fn first_low(x: Summary, wrapped: bool) -> Precedence
     ensures { result ≡ (if wrapped then lev.Unambiguous else x.low) }
 {
-    if wrapped { Level::Unambiguous } else { x.low }
+    if wrapped {
+        Precedence::Unambiguous
+    } else {
+        x.low
+    }
 }
 
 /// Whether the first token of a first operand is that of a label.

@@ -22,8 +22,8 @@ use Rattle.syn_lower_spec.specs.Part.{outer_attributes}
 use Rattle.syn_expr_spec.specs.declared.kinds.Infix.{Infix}
 use Rattle.syn_expr_spec.specs.declared.kinds.Infix.TheVariants as inf
 use Rattle.syn_expr_spec.specs.declared.kinds.BinKind.TheVariants as bin
-use Rattle.syn_expr_spec.specs.declared.kinds.Level.{Level}
-use Rattle.syn_expr_spec.specs.declared.kinds.Level.TheVariants as lev
+use Rattle.syn_expr_spec.specs.declared.kinds.Precedence.{Precedence}
+use Rattle.syn_expr_spec.specs.declared.kinds.Precedence.TheVariants as lev
 use Rattle.syn_expr_spec.specs.declared.kinds.UnKind.{UnKind}
 use Rattle.syn_expr_spec.specs.declared.kinds.UnKind.TheVariants as un
 use Rattle.syn_expr_spec.specs.Place.{at, takes}
@@ -156,7 +156,7 @@ record IsInner (p : Place) : Type 0 where
 inner_is : (p : Place) → IsInner (at p lev.Prefix)
 inner_is p = record { is = refl; level = refl }
 
-none_taken : (v : Level) (l : List Tok) → v ≡ lev.Prefix → taken_at v l ≡ None
+none_taken : (v : Precedence) (l : List Tok) → v ≡ lev.Prefix → taken_at v l ≡ None
 unfolding taken_at
 none_taken v l e = subst (λ v. taken_by v (infix_at l) ≡ None) (sym e) (by_operator (infix_at l))
   where

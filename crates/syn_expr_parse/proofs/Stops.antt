@@ -5,7 +5,7 @@ use Rattle.std.proofs.lemmas.Bool.{or_parts}
 use Rattle.syn_tokens.specs.Tok.{Tok}
 use Rattle.syn_lower_spec.specs.Mark.{round_at}
 use Rattle.syn_expr_spec.specs.declared.kinds.Infix.{Infix}
-use Rattle.syn_expr_spec.specs.declared.kinds.Level.{Level}
+use Rattle.syn_expr_spec.specs.declared.kinds.Precedence.{Precedence}
 use Rattle.syn_expr_spec.specs.declared.kinds.Place.{Place}
 use Rattle.syn_expr_spec.specs.Front.{trailer_at, dot_at, question_at, bracket_at}
 use Rattle.syn_expr_spec.specs.Place.{takes}
@@ -16,7 +16,7 @@ use Rattle.syn_expr_spec.specs.Read.{taken_by, taken_at, next_operator}
 
 -- ---- operators
 
-not_taken : (v : Level) (o : Option (Infix × ℕ)) → taken_by v o ≡ None → takes_by v o ≡ false
+not_taken : (v : Precedence) (o : Option (Infix × ℕ)) → taken_by v o ≡ None → takes_by v o ≡ false
 not_taken v None h = refl
 not_taken v (Some k) h = by_test (takes v (level k.0)) h
   where

@@ -12,7 +12,7 @@ use Rattle.syn_lower_spec.proofs.Weights.{some_is}
 use Rattle.syn_expr_spec.specs.declared.kinds.Infix.{Infix}
 use Rattle.syn_expr_spec.specs.declared.kinds.Infix.TheVariants as inf
 use Rattle.syn_expr_spec.specs.declared.kinds.Limits.TheVariants as limits
-use Rattle.syn_expr_spec.specs.declared.kinds.Level.{Level}
+use Rattle.syn_expr_spec.specs.declared.kinds.Precedence.{Precedence}
 use Rattle.syn_expr_spec.specs.declared.kinds.Place.{Place}
 use Rattle.syn_expr_spec.specs.Place.{at, takes}
 use Rattle.syn_expr_spec.specs.Op.{infix_at, level}
@@ -70,7 +70,7 @@ longer_tail p x inf.Cast m q h =
     let (ty, i, f) = then_some ((type false).reads m) (λ ty. postfix_made expr p x (tr.cast ty)) q h in
     tail_then (left (here.types false) ty.0 m ty.1 (heads.types.sound m ty.0 ty.1 i)) (postfix_tail p x (tr.cast ty.0) ty.1 q f)
 
-taken_some : (v : Level) (o : Option (Infix × ℕ)) (k : Infix × ℕ) → taken_by v o ≡ Some k → o ≡ Some k
+taken_some : (v : Precedence) (o : Option (Infix × ℕ)) (k : Infix × ℕ) → taken_by v o ≡ Some k → o ≡ Some k
 taken_some v None k h = absurd cc
 taken_some v (Some o) k h = let (t, c) = only_some (takes v (level o.0)) (Some o) k h in c
 

@@ -34,7 +34,7 @@ use syn_expr_ast::operation::{ExprRangeOf, ExprRawAddrOf, ExprReferenceOf, ExprU
 use syn_expr_ast::pattern::{ExprClosureOf, ExprLetOf};
 use syn_expr_heads::leaf::{Body, ClosureHead, JumpHead, LeafHead, PrefixHead, leaf as leaf_head};
 use syn_expr_heads::prefix::Prefixes;
-use syn_expr_spec::kinds::{Level, Place};
+use syn_expr_spec::kinds::{Place, Precedence};
 use syn_expr_tokens::atom::Atom;
 use syn_expr_tokens::limits::RangeLimits;
 use syn_expr_tokens::modifiers::{BlockModifiers, Label};
@@ -99,7 +99,7 @@ where
         ensures shrinks { weight input.new.rest ≤ weight input.old.rest }
     {
         let attrs = Vec::new(input.alloc());
-        let expr = (self.expr)(input, at(place, Level::Prefix))?;
+        let expr = (self.expr)(input, at(place, Precedence::Prefix))?;
         Ok(Box::new(input.alloc(), E::unary(ExprUnaryOf { attrs, op, expr }))?)
     }
 
@@ -121,7 +121,7 @@ where
         ensures shrinks { weight input.new.rest ≤ weight input.old.rest }
     {
         let attrs = Vec::new(input.alloc());
-        let expr = (self.expr)(input, at(place, Level::Prefix))?;
+        let expr = (self.expr)(input, at(place, Precedence::Prefix))?;
         let x = E::reference(ExprReferenceOf {
             attrs,
             and_token,
@@ -150,7 +150,7 @@ where
         ensures shrinks { weight input.new.rest ≤ weight input.old.rest }
     {
         let attrs = Vec::new(input.alloc());
-        let expr = (self.expr)(input, at(place, Level::Prefix))?;
+        let expr = (self.expr)(input, at(place, Precedence::Prefix))?;
         let x = E::raw_addr(ExprRawAddrOf {
             attrs,
             and_token,
@@ -180,7 +180,7 @@ where
         ensures shrinks { weight input.new.rest ≤ weight input.old.rest }
     {
         let attrs = Vec::new(input.alloc());
-        let expr = (self.expr)(input, at(place, Level::Let))?;
+        let expr = (self.expr)(input, at(place, Precedence::Let))?;
         let x = E::let_expr(ExprLetOf {
             attrs,
             let_token,
@@ -210,7 +210,7 @@ where
         if matches!(limits, RangeLimits::HalfOpen(_)) && ends_open_range(input, place.condition) {
             return standing(input, place, LeafHead::FullRange(limits));
         }
-        let end = (self.expr)(input, at(place, Level::Range))?;
+        let end = (self.expr)(input, at(place, Precedence::Range))?;
         let alloc = input.alloc();
         Ok(Box::new(alloc, range_expr(alloc, limits, Some(end)))?)
     }
@@ -280,7 +280,7 @@ where
         ensures shrinks { weight input.new.rest ≤ weight input.old.rest }
     {
         let body = match head.output {
-            ReturnType::Default => (self.expr)(input, at(place, Level::Jump))?,
+            ReturnType::Default => (self.expr)(input, at(place, Precedence::Jump))?,
             ReturnType::Given(_, _) => output_block(input)?,
         };
         let alloc = input.alloc();

@@ -25,7 +25,7 @@ use syn_expr_ast::label::{LeafKind, NodeKind, TrailerKind};
 use syn_expr_ast::node::{HasKind, HasNode};
 use syn_expr_ast::structure::FieldValueOf;
 use syn_expr_heads::leaf::{JumpHead, LeafHead};
-use syn_expr_spec::kinds::{Infix, Level, Place};
+use syn_expr_spec::kinds::{Infix, Place, Precedence};
 use syn_expr_tokens::limits::RangeLimits;
 use syn_expr_tokens::op::{
     begins_expr, brace_at, dot_at, ends_open_range, infix_at, is_comparison, is_range_op,
@@ -252,27 +252,27 @@ pub fn leaf_stands(input: &ParseBuffer<'_>, place: Place, leaf: &LeafHead) -> bo
 
 /// The whole of a list, an element of one, and what is alone in delimiters.
 pub const PLAIN: Place = Place {
-    level: Level::Jump,
+    level: Precedence::Jump,
     condition: false,
     head: false,
 };
 
 /// Before the block of an `if` or a loop and the arms of a `match`.
 pub const BEFORE_BLOCK: Place = Place {
-    level: Level::Jump,
+    level: Precedence::Jump,
     condition: true,
     head: false,
 };
 
 /// A statement, or the body of an arm.
 pub const AT_HEAD: Place = Place {
-    level: Level::Jump,
+    level: Precedence::Jump,
     condition: false,
     head: true,
 };
 
 /// The place of a right operand, or of the operand after what comes before it, at this level.
-pub fn at(place: Place, level: Level) -> Place
+pub fn at(place: Place, level: Precedence) -> Place
     ensures { result ≡ places.at place level }
 {
     Place {
@@ -448,7 +448,7 @@ pub fn closes<E: ReadExprs>(input: &ParseBuffer<'_>, place: Place, x: &E) -> boo
 
 /// The infix operator that an expression at this level takes next, and of how many tokens it is.
 #[tactic(auto, unfolding(syn_expr_spec::specs::Read::taken_at))]
-fn taken_at(input: &ParseBuffer<'_>, level: Level) -> Option<(Infix, usize)>
+fn taken_at(input: &ParseBuffer<'_>, level: Precedence) -> Option<(Infix, usize)>
     ensures { result ≡ read.taken_at level input.now.rest }
 {
     match infix_at(input) {

@@ -20,7 +20,7 @@ use crate::kinds::ReadExprs;
 use crate::known::{Held, at, chains, closes, given_up, next_operator, stops};
 use crate::make;
 use crate::operands::Grammar;
-use syn_expr_spec::kinds::{Infix, Level, Limits, Place};
+use syn_expr_spec::kinds::{Infix, Limits, Place, Precedence};
 use syn_expr_tokens::atom::{TrailerStart, trailer_start};
 use syn_expr_tokens::op::{UnOp, ends_open_range, left_arrow_at, level as level_of};
 use syn_lower::readers::ty;
@@ -99,7 +99,7 @@ impl<E: ReadExprs + Drop, F: Fn(&mut ParseBuffer<'_>, Place) -> Result<Box<E>>> 
             return Ok(make::range_from(input.alloc(), start, limits)?);
         }
         let start = Held { value: start };
-        let end = (self.expr)(input, at(place, Level::Range))?;
+        let end = (self.expr)(input, at(place, Precedence::Range))?;
         Ok(make::range_between(input.alloc(), start.into_inner(), limits, end)?)
     }
 
@@ -267,7 +267,7 @@ impl<E: ReadExprs + Drop, F: Fn(&mut ParseBuffer<'_>, Place) -> Result<Box<E>> +
         ensures noted { input.new.noted ≡ input.old.noted }
         ensures shrinks { weight input.new.rest ≤ weight input.old.rest }
     {
-        let inner = at(place, Level::Prefix);
+        let inner = at(place, Precedence::Prefix);
         let trees = input.trees();
         let count = operator_count(trees);
         input.skip(count);

@@ -4,7 +4,7 @@ use Rattle.std.proofs.Common.{◌≡◌, Bool, true, false, List, [], ◌∷◌,
 use Rattle.syn_lexer.specs.declared.front.Delimiter.TheVariants as del
 use Rattle.syn_tokens.specs.Tok.{group, inside}
 use Rattle.syn_lower_spec.specs.Tree.{AttributeTree}
-use Rattle.syn_expr_spec.specs.declared.kinds.Level.TheVariants as lev
+use Rattle.syn_expr_spec.specs.declared.kinds.Precedence.TheVariants as lev
 use Rattle.syn_expr_spec.specs.Next.{enclosed, in_statement}
 use Rattle.syn_expr_spec.specs.Rule.{put, place_asks, bare, chained_bare, is_chainable, is_plain_block}
 use Rattle.syn_expr_spec.specs.Tree as e

@@ -9,7 +9,7 @@ use Rattle.syn_lower_spec.specs.Own.{alone, joint}
 use Rattle.syn_lower_spec.specs.Own as own_parts
 use Rattle.syn_lower_spec.specs.PatOwn.{attributes_own}
 use Rattle.syn_pat.proofs.Appends.{attributes_append}
-use Rattle.syn_expr_spec.specs.declared.kinds.Level.TheVariants as lev
+use Rattle.syn_expr_spec.specs.declared.kinds.Precedence.TheVariants as lev
 use Rattle.syn_expr_spec.specs.Next.{enclosed, in_condition, in_statement, piece_context}
 use Rattle.syn_expr_spec.specs.Rule.{put, piece_put, place_asks, bare, bare_children}
 use Rattle.syn_expr_spec.specs.Tree as e

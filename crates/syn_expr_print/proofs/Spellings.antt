@@ -8,7 +8,7 @@ use Rattle.syn_lower_spec.specs.Own as own_parts
 use Rattle.syn_lower_spec.specs.PatOwn.{attributes_own}
 use Rattle.syn_pat.proofs.Appends.{attributes_append}
 use Rattle.syn_expr_spec.specs.declared.kinds.Infix.{Infix}
-use Rattle.syn_expr_spec.specs.declared.kinds.Level.TheVariants as lev
+use Rattle.syn_expr_spec.specs.declared.kinds.Precedence.TheVariants as lev
 use Rattle.syn_expr_spec.specs.declared.next.Context.{Context}
 use Rattle.syn_expr_spec.specs.Op.{level}
 use Rattle.syn_expr_spec.specs.Next.{enclosed, left_context, right_context, base_context, prefix_context, attributed_context}

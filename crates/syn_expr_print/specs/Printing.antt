@@ -3,7 +3,7 @@ use Rattle.std.specs.Prelude.{◌≡◌, Bool, false, List, [], ◌++◌}
 use Rattle.syn_tokens.specs.Tok.{Tok}
 use Rattle.syn_expr_spec.specs.declared.next.Context.{Context}
 use Rattle.syn_expr_spec.specs.declared.summary.Summary.{Summary}
-use Rattle.syn_expr_spec.specs.declared.kinds.Level.TheVariants as lev
+use Rattle.syn_expr_spec.specs.declared.kinds.Precedence.TheVariants as lev
 use Rattle.syn_expr_spec.specs.Next.{enclosed, in_statement, piece_context}
 use Rattle.syn_expr_spec.specs.Rule.{put, piece_put, place_asks, bare, bare_children}
 use Rattle.syn_expr_spec.specs.Tree as e

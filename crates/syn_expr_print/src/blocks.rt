@@ -21,7 +21,7 @@ use crate::print::{HasPrint, Summaries, take_summary};
 use syn_expr_ast::node::HasShape;
 use syn_expr_ast::put::{PutResult, put_braces};
 use syn_expr_fixup::context::{enclosed, in_statement, place_by};
-use syn_expr_spec::kinds::Level;
+use syn_expr_spec::kinds::Precedence;
 use syn_expr_spec::next::Context;
 use syn_expr_spec::summary::{Sort, Summary};
 use syn_tokens::token::Brace;
@@ -68,7 +68,7 @@ pub(crate) fn braced<
 {
     let mut statement = TokenStream::new(tokens.alloc());
     let context = in_statement();
-    let wrapped = place_by(Level::Jump, context, summary);
+    let wrapped = place_by(Precedence::Jump, context, summary);
     inside(bare, &mut statement, summaries, x, wrapped, context)?;
     put_braces(tokens, &Brace::default(), statement)
 }

@@ -30,7 +30,7 @@ use syn_expr_fixup::context::{
     base_by, base_context, enclosed, left_by, left_context, place_by, prefix_by, prefix_context,
     right_context,
 };
-use syn_expr_spec::kinds::{Infix, Level};
+use syn_expr_spec::kinds::{Infix, Precedence};
 use syn_expr_spec::next::Context;
 use syn_expr_tokens::op::level;
 use syn_lower::punctuated::Punctuated;
@@ -101,7 +101,7 @@ pub fn whole<E: HasPrint, F: Fn(&mut TokenStream, &mut Summaries, &E, Context) -
     ensures taken { OnOk result (Taken summaries.old summaries.new (stack (E.tree x.now))) }
 {
     let summary = take_summary(summaries, x);
-    let wrapped = place_by(Level::Jump, context, summary);
+    let wrapped = place_by(Precedence::Jump, context, summary);
     inside(bare, tokens, summaries, x, wrapped, context)
 }
 

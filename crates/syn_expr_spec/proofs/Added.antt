@@ -5,7 +5,7 @@ use Rattle.std.proofs.lemmas.Bool.{and_parts}
 use Rattle.syn_lower_spec.specs.Pat.{MemberTree, a_name}
 use Rattle.syn_lower_spec.specs.PatFits.{attributes_outer, member_fits}
 use Rattle.syn_expr_spec.specs.declared.next.Context.{Context}
-use Rattle.syn_expr_spec.specs.declared.kinds.Level.TheVariants as lev
+use Rattle.syn_expr_spec.specs.declared.kinds.Precedence.TheVariants as lev
 use Rattle.syn_expr_spec.specs.declared.kinds.Infix.{Infix}
 use Rattle.syn_expr_spec.specs.Op.{level}
 use Rattle.syn_expr_spec.specs.Next.{enclosed, in_statement, prefix_context, left_context, right_context, base_context, attributed_context, piece_context}

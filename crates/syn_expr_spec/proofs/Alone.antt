@@ -18,7 +18,7 @@ use Rattle.syn_lower_spec.proofs.Readable.{lit_readable, macro_readable}
 use Rattle.syn_lower_spec.proofs.Tails.{flag_leaves, tail_then}
 use Rattle.syn_lower_spec.proofs.Weights.{some_is}
 use Rattle.syn_expr_spec.specs.declared.kinds.Place.{Place}
-use Rattle.syn_expr_spec.specs.declared.kinds.Level.TheVariants as lev
+use Rattle.syn_expr_spec.specs.declared.kinds.Precedence.TheVariants as lev
 use Rattle.syn_expr_spec.specs.Place.{plain, at}
 use Rattle.syn_expr_spec.specs.Tree as tr
 use Rattle.syn_expr_spec.specs.Tree.{Tree, Children, Leaf, leaf, paren, prefixed, tail, frame, none, attributed_with}

@@ -2,7 +2,7 @@
 use Rattle.std.proofs.Common.{◌≡◌, Bool, true, false, not, ◌||◌, None, refl, sym, ◌∙◌, ap, subst}
 use Rattle.std.proofs.Math.Bool.{and-false}
 use Rattle.std.proofs.lemmas.Bool.{or_parts}
-use Rattle.syn_expr_spec.specs.declared.kinds.Level.TheVariants as lev
+use Rattle.syn_expr_spec.specs.declared.kinds.Precedence.TheVariants as lev
 use Rattle.syn_expr_spec.specs.declared.next.Next.TheVariants as next
 use Rattle.syn_expr_spec.specs.declared.next.Context.{Context}
 use Rattle.syn_expr_spec.specs.Next.{enclosed, in_arm, in_statement, left_context, base_context, right_context, attributed_context, prefix_context, piece_context}

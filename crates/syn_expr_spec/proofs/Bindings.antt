@@ -11,7 +11,7 @@ use Rattle.syn_expr_spec.specs.declared.kinds.BinKind.TheVariants as bin
 use Rattle.syn_expr_spec.specs.declared.kinds.Limits.{Limits}
 use Rattle.syn_expr_spec.specs.declared.kinds.Infix.{Infix}
 use Rattle.syn_expr_spec.specs.declared.kinds.Infix.TheVariants as inf
-use Rattle.syn_expr_spec.specs.declared.kinds.Level.{Level}
+use Rattle.syn_expr_spec.specs.declared.kinds.Precedence.{Precedence}
 use Rattle.syn_expr_spec.specs.Place.{rank, takes, at}
 use Rattle.syn_expr_spec.specs.Op.{infix_at, level, binary_level, goes_on, is_comparison}
 use Rattle.syn_expr_spec.specs.Next.{prefix_level}
@@ -132,7 +132,7 @@ right_operand_binds_tighter p l n x s =
 
 -- ---- left operands
 
-nothing_taken : (v : Level) (n : List Tok) (k : Infix) (count : ℕ) → infix_at n ≡ Some (k, count) → goes_on v n ≡ false → takes v (level k) ≡ false
+nothing_taken : (v : Precedence) (n : List Tok) (k : Infix) (count : ℕ) → infix_at n ≡ Some (k, count) → goes_on v n ≡ false → takes v (level k) ≡ false
 unfolding goes_on
 nothing_taken v n k count i h = rw i at h
 

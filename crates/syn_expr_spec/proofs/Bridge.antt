@@ -15,8 +15,8 @@ use Rattle.syn_lower_spec.specs.Pat.{a_name, an_index}
 use Rattle.syn_lower_spec.specs.Fits.{qpath_fits}
 use Rattle.syn_lower_spec.proofs.PatsBack.{attributes_back}
 use Rattle.syn_expr_spec.specs.declared.kinds.Infix.{Infix}
-use Rattle.syn_expr_spec.specs.declared.kinds.Level.{Level}
-use Rattle.syn_expr_spec.specs.declared.kinds.Level.TheVariants as lev
+use Rattle.syn_expr_spec.specs.declared.kinds.Precedence.{Precedence}
+use Rattle.syn_expr_spec.specs.declared.kinds.Precedence.TheVariants as lev
 use Rattle.syn_expr_spec.specs.declared.kinds.Place.{Place}
 use Rattle.syn_expr_spec.specs.declared.next.Next.{Next}
 use Rattle.syn_expr_spec.specs.declared.next.Next.TheVariants as next
@@ -57,7 +57,7 @@ base_plain k (infixed x j y) h = absurd cc
 base_plain k (postfixed x j) h = absurd cc
 base_plain k _ h = (refl, refl)
 
-no_pound : (v : Level) (c : Context) (t : Tree) → Obeys v c t → is_attributed t ≡ false → is_operation t ≡ false → begins_pound t ≡ false
+no_pound : (v : Precedence) (c : Context) (t : Tree) → Obeys v c t → is_attributed t ≡ false → is_operation t ≡ false → begins_pound t ≡ false
 no_pound v c (attributed b more t) h a o = absurd cc
 no_pound v c (infixed x k y) h a o = absurd cc
 no_pound v c (postfixed x k) h a o = absurd cc

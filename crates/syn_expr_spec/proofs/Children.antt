@@ -24,7 +24,7 @@ use Rattle.syn_lower_spec.specs.Ends.{ends_types, ends_patterns}
 use Rattle.syn_lower_spec.specs.Fits.{output_stops, qpath_fits}
 use Rattle.syn_lower_spec.proofs.Ends.{parts_end}
 use Rattle.syn_lower_spec.proofs.PatWholeComplete.{patterns_read_back}
-use Rattle.syn_expr_spec.specs.declared.kinds.Level.TheVariants as lev
+use Rattle.syn_expr_spec.specs.declared.kinds.Precedence.TheVariants as lev
 use Rattle.syn_expr_spec.specs.declared.next.Next.TheVariants as next
 use Rattle.syn_expr_spec.specs.Place.{plain, before_block, at_head}
 use Rattle.syn_expr_spec.specs.Next.{piece_context}

@@ -16,7 +16,7 @@ use Rattle.syn_expr_spec.specs.declared.kinds.Place.{Place}
 use Rattle.syn_expr_spec.specs.declared.kinds.Infix.{Infix}
 use Rattle.syn_expr_spec.specs.declared.kinds.Infix.TheVariants as inf
 use Rattle.syn_expr_spec.specs.declared.kinds.Limits.TheVariants as limits
-use Rattle.syn_expr_spec.specs.declared.kinds.Level.{Level}
+use Rattle.syn_expr_spec.specs.declared.kinds.Precedence.{Precedence}
 use Rattle.syn_expr_spec.specs.Place.{plain, at, takes}
 use Rattle.syn_expr_spec.specs.Op.{infix_at, level, goes_on, takes_by, is_comparison}
 use Rattle.syn_expr_spec.specs.Tree as tr
@@ -105,7 +105,7 @@ bare_closes : (p : Place) (a : AttributeTree) (more : List AttributeTree) (x : T
 unfolding closes
 bare_closes p a more x n m h = less_closes (carries x) (goes_behind (rests p x) n) h (is_cast x) (may_no_cast p x m)
 
-goes_none : (v : Level) (n : List Tok) → goes_on v n ≡ false → taken_at v n ≡ None
+goes_none : (v : Precedence) (n : List Tok) → goes_on v n ≡ false → taken_at v n ≡ None
 unfolding goes_on taken_at
 goes_none v n h = go (infix_at n) h
   where

@@ -7,8 +7,8 @@ use Rattle.syn_expr_spec.specs.declared.kinds.BinKind.{BinKind}
 use Rattle.syn_expr_spec.specs.declared.kinds.BinKind.TheVariants as bin
 use Rattle.syn_expr_spec.specs.declared.kinds.Infix.{Infix}
 use Rattle.syn_expr_spec.specs.declared.kinds.Infix.TheVariants as inf
-use Rattle.syn_expr_spec.specs.declared.kinds.Level.{Level}
-use Rattle.syn_expr_spec.specs.declared.kinds.Level.TheVariants as lev
+use Rattle.syn_expr_spec.specs.declared.kinds.Precedence.{Precedence}
+use Rattle.syn_expr_spec.specs.declared.kinds.Precedence.TheVariants as lev
 use Rattle.syn_expr_spec.specs.declared.next.Next.{Next}
 use Rattle.syn_expr_spec.specs.declared.next.Next.TheVariants as next
 use Rattle.syn_expr_spec.specs.declared.next.Context.{Context}
@@ -119,7 +119,7 @@ prefix_end : (k : Prefix) → prefix_next k next.End ≡ next.End
 prefix_end (e.unary op) = refl
 prefix_end _ = refl
 
-ends_end : (v : Level) (t : Tree) (n : Next) (w : Bool) → n ≡ next.End → ends_badly v t n w ≡ false
+ends_end : (v : Precedence) (t : Tree) (n : Next) (w : Bool) → n ≡ next.End → ends_badly v t n w ≡ false
 ends_end v t n w h = rw h refl
 
 pub bad_end : (t : Tree) → bad t next.End ≡ false
@@ -137,7 +137,7 @@ pub takes_each : (k : Infix) → takes lev.Jump (level k) ≡ true
 takes_each (inf.Binary k) = binary_some k
 takes_each _ = refl
 
-low_left : (w : Bool) (a b : Level) → takes lev.Jump a ≡ true → takes lev.Jump b ≡ true → takes lev.Jump (lower a (if w then lev.Unambiguous else b)) ≡ true
+low_left : (w : Bool) (a b : Precedence) → takes lev.Jump a ≡ true → takes lev.Jump b ≡ true → takes lev.Jump (lower a (if w then lev.Unambiguous else b)) ≡ true
 low_left true a b p q = lower_takes lev.Jump a lev.Unambiguous p refl
 low_left false a b p q = lower_takes lev.Jump a b p q
 

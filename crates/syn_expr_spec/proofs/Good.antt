@@ -4,8 +4,8 @@ use Rattle.std.specs.Prelude.{if◌then◌else◌}
 use Rattle.std.proofs.Math.Bool.{and-false, or-false}
 use Rattle.std.proofs.lemmas.Bool.{or_parts, and_parts, or_from, not-false}
 use Rattle.syn_expr_spec.specs.declared.kinds.Infix.{Infix}
-use Rattle.syn_expr_spec.specs.declared.kinds.Level.{Level}
-use Rattle.syn_expr_spec.specs.declared.kinds.Level.TheVariants as lev
+use Rattle.syn_expr_spec.specs.declared.kinds.Precedence.{Precedence}
+use Rattle.syn_expr_spec.specs.declared.kinds.Precedence.TheVariants as lev
 use Rattle.syn_expr_spec.specs.declared.next.Next.TheVariants as next
 use Rattle.syn_expr_spec.specs.declared.next.Context.{Context}
 use Rattle.syn_expr_spec.specs.Place.{takes}
@@ -24,7 +24,7 @@ use Rattle.syn_expr_spec.proofs.Edges.{compares_bare, range_bare, operation_bare
 
 -- Wherever its edges allow it, the tree obeys the rules as printed, left bare.
 abbrev pub Good : Tree → Type 0
-Good t = (v : Level) (c : Context) → takes v (low t) ≡ true → bad t c.next ≡ false → self_wrapped c t ≡ false → Obeys v c (bare c t)
+Good t = (v : Precedence) (c : Context) → takes v (low t) ≡ true → bad t c.next ≡ false → self_wrapped c t ≡ false → Obeys v c (bare c t)
 
 pub obeys_enclosed : (t : Tree) → Good t → Obeys lev.Jump enclosed (bare enclosed t)
 obeys_enclosed t g = g lev.Jump enclosed (low_some t) (bad_end t) (self_enclosed t)
@@ -34,7 +34,7 @@ pub obeys_paren : (t : Tree) → Good t → Obeys lev.Jump enclosed (bare enclos
 obeys_paren t g = (obeys_enclosed t g, record { no_operator = refl; no_trailer = refl })
 
 -- the pair that is added round a node for what it is comes before what the node could come before
-wrapped_fits : (v : Level) (t : Tree) (c : Context) (a m x : Bool) → Formed t → misplaced c t ≡ m → (a || m) || x ≡ true
+wrapped_fits : (v : Precedence) (t : Tree) (c : Context) (a m x : Bool) → Formed t → misplaced c t ≡ m → (a || m) || x ≡ true
     → ends_badly v t c.next (a || x) ≡ false → Fits v (paren true (bare enclosed t)) c.next
 wrapped_fits v t c true m x f q h e = let p = or_parts _ _ e in record { no_operator = p.0; no_trailer = p.1 }
 wrapped_fits v t c false m true f q h e = let p = or_parts _ _ e in record { no_operator = p.0; no_trailer = p.1 }
@@ -45,7 +45,7 @@ wrapped_fits v t c false true false f q h e =
 wrapped_fits v t c false false false f q h e = absurd cc
 
 -- at a place of its own; x: for another reason
-at_place : (v : Level) (t : Tree) (c : Context) (x w : Bool) → Formed t → Good t → place_asks v c t || x ≡ w
+at_place : (v : Precedence) (t : Tree) (c : Context) (x w : Bool) → Formed t → Good t → place_asks v c t || x ≡ w
     → ends_badly v t c.next (place_wrapped v t c.next (low t) (bad t c.next) || x) ≡ false
     → Obeys v c (put w (bare enclosed t) (bare c t)) × Fits v (put w (bare enclosed t) (bare c t)) c.next
 at_place v t c x true f g h e = (obeys_paren t g, wrapped_fits v t c _ (misplaced c t) x f refl h e)
@@ -71,7 +71,7 @@ no_label k c t false a h = go (is_bare_break k) (or_parts _ _ h).1
     go true h = label_bare c t h
     go false h = refl
 
-at_left : (v : Level) (k : Infix) (x : Tree) (c : Context) (w : Bool) → Good x → left_asks k c x ≡ w → c.next ≡ class_of k
+at_left : (v : Precedence) (k : Infix) (x : Tree) (c : Context) (w : Bool) → Good x → left_asks k c x ≡ w → c.next ≡ class_of k
     → takes v (if left_wrapped k x (bad x (class_of k)) then lev.Unambiguous else low x) ≡ true
     → Obeys v c (put w (bare enclosed x) (bare c x)) × FitsLeft k (put w (bare enclosed x) (bare c x))
 at_left v k x c true g h n e = (obeys_paren x g, record { no_range = refl; no_chain = refl })
@@ -86,7 +86,7 @@ at_left v k x c false g h n e =
       record { no_range = range_bare c x ∙ q.0; no_chain = ap (λ b. b && is_comparison k) (compares_bare c x) ∙ r.0 },
     )
 
-at_base : (v : Level) (k : Trailer) (b : Tree) (c : Context) (w : Bool) → Good b → base_asks k (base_context k c) b ≡ w → takes v lev.Unambiguous ≡ true
+at_base : (v : Precedence) (k : Trailer) (b : Tree) (c : Context) (w : Bool) → Good b → base_asks k (base_context k c) b ≡ w → takes v lev.Unambiguous ≡ true
     → (is_base k (put w (bare enclosed b) (bare (base_context k c) b)) ≡ true) × Obeys v (base_context k c) (put w (bare enclosed b) (bare (base_context k c) b))
 at_base v k b c true g h e = (base_paren k true (bare enclosed b), obeys_paren b g)
 at_base v k b c false g h e =
@@ -96,7 +96,7 @@ at_base v k b c false g h e =
     let i = not-false _ q.0 in
     (base_bare k (base_context k c) b ∙ i, g v (base_context k c) (rw (low_closed b (carrier_closed b (and_parts _ _ i).0)) e) r.0 (or_from _ _ r.1 p.1))
 
-behind_attributes : (v : Level) (t : Tree) (c : Context) (w : Bool) → Good t → is_operation t ≡ w → takes v lev.Unambiguous ≡ true
+behind_attributes : (v : Precedence) (t : Tree) (c : Context) (w : Bool) → Good t → is_operation t ≡ w → takes v lev.Unambiguous ≡ true
     → not w && bad t c.next ≡ false → (not w && refuses t c.next) || (not w && misplaced (attributed_context c) t) ≡ false
     → (is_operation (put w (bare enclosed t) (bare (attributed_context c) t)) ≡ false) × Obeys v (attributed_context c) (put w (bare enclosed t) (bare (attributed_context c) t))
 behind_attributes v t c true g i h e f = (refl, obeys_paren t g)

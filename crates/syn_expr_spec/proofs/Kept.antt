@@ -8,8 +8,8 @@ use Rattle.syn_expr_spec.specs.declared.kinds.Infix.{Infix}
 use Rattle.syn_expr_spec.specs.declared.kinds.BinKind.{BinKind}
 use Rattle.syn_expr_spec.specs.declared.kinds.BinKind.TheVariants as bin
 use Rattle.syn_expr_spec.specs.declared.kinds.Infix.TheVariants as inf
-use Rattle.syn_expr_spec.specs.declared.kinds.Level.{Level}
-use Rattle.syn_expr_spec.specs.declared.kinds.Level.TheVariants as lev
+use Rattle.syn_expr_spec.specs.declared.kinds.Precedence.{Precedence}
+use Rattle.syn_expr_spec.specs.declared.kinds.Precedence.TheVariants as lev
 use Rattle.syn_expr_spec.specs.declared.next.Next.{Next}
 use Rattle.syn_expr_spec.specs.declared.next.Context.{Context}
 use Rattle.syn_expr_spec.specs.Place.{takes}
@@ -66,12 +66,12 @@ prefix_small _ = refl
 -- ---- what obeys is of the kind that is printed
 
 -- by whether a pair comes after the attributes
-abbrev ObeysBehind : Level → Context → Tree → Bool → Type 0
+abbrev ObeysBehind : Precedence → Context → Tree → Bool → Type 0
 ObeysBehind v c t b =
     let u = put b (parenthesize_attributed t) (parenthesize_attributed t) in
     (is_operation u ≡ false) × Obeys v (attributed_context c) u
 
-pub range_obeys : (t : Tree) (v : Level) (c : Context) → Obeys v c (parenthesize_attributed t) → prints_range t ≡ is_range (parenthesize_attributed t)
+pub range_obeys : (t : Tree) (v : Precedence) (c : Context) → Obeys v c (parenthesize_attributed t) → prints_range t ≡ is_range (parenthesize_attributed t)
 range_obeys (leaf k) v c i = refl
 range_obeys (attributed a more t) v c i = go (λ h. range_obeys t v (attributed_context c) h) (is_operation t) refl i
   where
@@ -81,7 +81,7 @@ range_obeys (attributed a more t) v c i = go (λ h. range_obeys t v (attributed_
     go again false o j = sym (or_parts (is_infix t) (prints_range t) o).1 ∙ again j.1
 range_obeys _ v c i = refl
 
-pub carrier_obeys : (t : Tree) (v : Level) (c : Context) → Obeys v c (parenthesize_attributed t)
+pub carrier_obeys : (t : Tree) (v : Precedence) (c : Context) → Obeys v c (parenthesize_attributed t)
     → prints_carrier t ≡ carries (parenthesize_attributed t) || is_cast (parenthesize_attributed t)
 carrier_obeys (leaf k) v c i = refl
 carrier_obeys (attributed a more t) v c i = go (λ h. carrier_obeys t v (attributed_context c) h) (is_operation t) i
@@ -109,7 +109,7 @@ bare_break k t h = go (is_bare_break k) h
 
 -- ---- the edges, and the tree itself
 
-pub place_bare : (v : Level) (t : Tree) (n : Next) (lo : Level) (b : Bool) → takes v lo ≡ true → b ≡ false → refuses t n ≡ false → place_wrapped v t n lo b ≡ false
+pub place_bare : (v : Precedence) (t : Tree) (n : Next) (lo : Precedence) (b : Bool) → takes v lo ≡ true → b ≡ false → refuses t n ≡ false → place_wrapped v t n lo b ≡ false
 place_bare v t n lo b h e f = rw (h, e, f) refl
 
 pub left_bare : (k : Infix) (t : Tree) (b : Bool) → prints_range t ≡ false → compares t && is_comparison k ≡ false → b ≡ false → refuses t (class_of k) ≡ false
@@ -122,27 +122,27 @@ base_bare k t b p q r = rw (p, q, r) refl
 pub put_bare : (w : Bool) (a b c : Tree) → w ≡ false → b ≡ c → put w a b ≡ c
 put_bare w a b c e f = ap (λ x. put x a b) e ∙ f
 
-pub ends_well : (v : Level) (t : Tree) (n : Next) (w : Bool) → w ≡ false → takes_next v n && not (prints_range t) ≡ false → trails n && prints_carrier t ≡ false
+pub ends_well : (v : Precedence) (t : Tree) (n : Next) (w : Bool) → w ≡ false → takes_next v n && not (prints_range t) ≡ false → trails n && prints_carrier t ≡ false
     → ends_badly v t n w ≡ false
 ends_well v t n w e f g = rw (e, f, g) refl
 
-pub record Tight (v : Level) (c : Context) (t : Tree) : Type 0 where
+pub record Tight (v : Precedence) (c : Context) (t : Tree) : Type 0 where
   pub edge : takes v (low t) ≡ true
   pub end : bad t c.next ≡ false
   pub refused : refuses t c.next ≡ false
   pub placed : misplaced c t ≡ false
 
-pub record Kept (v : Level) (c : Context) (t : Tree) : Type 0 where
+pub record Kept (v : Precedence) (c : Context) (t : Tree) : Type 0 where
   pub tight : Tight v c t
   pub same : bare c t ≡ parenthesize_attributed t
 
-pub not_wrapped : (v : Level) (c : Context) (t : Tree) → Tight v c t → place_wrapped v t c.next (low t) (bad t c.next) ≡ false
+pub not_wrapped : (v : Precedence) (c : Context) (t : Tree) → Tight v c t → place_wrapped v t c.next (low t) (bad t c.next) ≡ false
 not_wrapped v c t k = place_bare v t c.next (low t) (bad t c.next) k.edge k.end k.refused
 
-pub not_asked : (v : Level) (c : Context) (t : Tree) → Tight v c t → place_asks v c t ≡ false
+pub not_asked : (v : Precedence) (c : Context) (t : Tree) → Tight v c t → place_asks v c t ≡ false
 not_asked v c t k = or_from _ _ (not_wrapped v c t k) k.placed
 
-place_ends : (v : Level) (c : Context) (t : Tree) → Tight v c t → Obeys v c (parenthesize_attributed t) → Fits v (parenthesize_attributed t) c.next
+place_ends : (v : Precedence) (c : Context) (t : Tree) → Tight v c t → Obeys v c (parenthesize_attributed t) → Fits v (parenthesize_attributed t) c.next
     → (takes_next v c.next && not (prints_range t) ≡ false) × (trails c.next && prints_carrier t ≡ false)
 place_ends v c t k i f = (
   ap (λ b. takes_next v c.next && not b) (range_obeys t v c i) ∙ f.no_operator,
@@ -163,7 +163,7 @@ kept_prefix k gs c t h i f l =
       put_bare _ (bare enclosed t) (bare (prefix_context k c) t) (parenthesize_attributed t) (or_from _ _ (or_from _ _ w h.tight.placed) b) h.same,
     )
 
-kept_place : (v : Level) (c : Context) (t : Tree) → Kept v c t → Obeys v c (parenthesize_attributed t) → Fits v (parenthesize_attributed t) c.next
+kept_place : (v : Precedence) (c : Context) (t : Tree) → Kept v c t → Obeys v c (parenthesize_attributed t) → Fits v (parenthesize_attributed t) c.next
     → (ends_badly v t c.next (place_wrapped v t c.next (low t) (bad t c.next)) ≡ false)
     × (put (place_asks v c t) (bare enclosed t) (bare c t) ≡ parenthesize_attributed t)
 kept_place v c t h i f =
@@ -172,7 +172,7 @@ kept_place v c t h i f =
       put_bare _ (bare enclosed t) (bare c t) (parenthesize_attributed t) (not_asked v c t h.tight) h.same,
     )
 
-kept_left : (v : Level) (k : Infix) (c : Context) (x : Tree) → Kept v (left_context k c) x → Obeys v (left_context k c) (parenthesize_attributed x)
+kept_left : (v : Precedence) (k : Infix) (c : Context) (x : Tree) → Kept v (left_context k c) x → Obeys v (left_context k c) (parenthesize_attributed x)
     → FitsLeft k (parenthesize_attributed x)
     → (left_wrapped k x (bad x (class_of k)) ≡ false)
     × (put (left_asks k (left_context k c) x) (bare enclosed x) (bare (left_context k c) x) ≡ parenthesize_attributed x)
@@ -184,7 +184,7 @@ kept_left v k c x h i f =
 same_paren : (m : Bool) (t t' : Tree) → m ≡ false → t ≡ t' → paren false t ≡ paren m t'
 same_paren m t t' p q = cc
 
-low_kept : (v : Level) (k : Infix) (x : Tree) (w : Bool) → w ≡ false → takes v (level k) ≡ true → takes v (low x) ≡ true
+low_kept : (v : Precedence) (k : Infix) (x : Tree) (w : Bool) → w ≡ false → takes v (level k) ≡ true → takes v (low x) ≡ true
     → takes v (lower (level k) (if w then lev.Unambiguous else low x)) ≡ true
 low_kept v k x w e p q = rw e (lower_takes v (level k) (low x) p q)
 
@@ -223,7 +223,7 @@ kept_child e.output_block t b h z = let p = verbatim_block t b in rw p.1 p.0
 kept_child e.stray t b h z = sym (z refl)
 kept_child _ t b h z = kept_at t enclosed (h refl)
 
-kept_attributes : (v : Level) (c : Context) (a : AttributeTree) (more : List AttributeTree) (t : Tree) → takes v lev.Unambiguous ≡ true
+kept_attributes : (v : Precedence) (c : Context) (a : AttributeTree) (more : List AttributeTree) (t : Tree) → takes v lev.Unambiguous ≡ true
     → (b : Bool) → is_operation t ≡ b → (b ≡ true → bare enclosed t ≡ parenthesize_attributed t) → (b ≡ false → Kept v (attributed_context c) t)
     → Kept v c (attributed a more t)
 kept_attributes v c a more t s true o f h =
@@ -239,16 +239,16 @@ kept_attributes v c a more t s false o f h =
     }
 
 -- what is known of an operand after attributes, in the pair or without one
-inside_pair : (v : Level) (c : Context) (t : Tree) (b : Bool) → ObeysBehind v c t b → b ≡ true → Obeys lev.Jump enclosed (parenthesize_attributed t)
+inside_pair : (v : Precedence) (c : Context) (t : Tree) (b : Bool) → ObeysBehind v c t b → b ≡ true → Obeys lev.Jump enclosed (parenthesize_attributed t)
 inside_pair v c t true i h = i.1.0
 inside_pair v c t false i h = absurd cc
 
-without_pair : (v : Level) (c : Context) (t : Tree) (b : Bool) → ObeysBehind v c t b → b ≡ false → Obeys v (attributed_context c) (parenthesize_attributed t)
+without_pair : (v : Precedence) (c : Context) (t : Tree) (b : Bool) → ObeysBehind v c t b → b ≡ false → Obeys v (attributed_context c) (parenthesize_attributed t)
 without_pair v c t true i h = absurd cc
 without_pair v c t false i h = i.1
 
 mutual
-  pub kept : (t : Tree) (v : Level) (c : Context) → takes v lev.Unambiguous ≡ true → Proper t → Obeys v c (parenthesize_attributed t) → Kept v c t
+  pub kept : (t : Tree) (v : Precedence) (c : Context) → takes v lev.Unambiguous ≡ true → Proper t → Obeys v c (parenthesize_attributed t) → Kept v c t
   kept (leaf k) v c s u i =
       let p = or_parts _ _ i in record { tight = record { edge = s; end = refl; refused = p.0; placed = p.1 }; same = refl }
   kept (paren m t) v c s u i =

@@ -5,8 +5,8 @@ use Rattle.std.proofs.lemmas.Bool.{or_parts, or_from, and_parts}
 use Rattle.syn_lower_spec.specs.Tree.{AttributeTree}
 use Rattle.syn_lower_spec.specs.Pat.{MemberTree, a_name, an_index}
 use Rattle.syn_expr_spec.specs.declared.kinds.Infix.{Infix}
-use Rattle.syn_expr_spec.specs.declared.kinds.Level.{Level}
-use Rattle.syn_expr_spec.specs.declared.kinds.Level.TheVariants as lev
+use Rattle.syn_expr_spec.specs.declared.kinds.Precedence.{Precedence}
+use Rattle.syn_expr_spec.specs.declared.kinds.Precedence.TheVariants as lev
 use Rattle.syn_expr_spec.specs.declared.next.Context.{Context}
 use Rattle.syn_expr_spec.specs.Place.{takes}
 use Rattle.syn_expr_spec.specs.Op.{level, is_comparison}
@@ -65,13 +65,13 @@ fits_there s _ c t h = refl
 
 -- what no tree of one pair less does
 abbrev pub NeedsItsPairs : Tree → Type 0
-NeedsItsPairs t = (v : Level) (c : Context) (q : Tree) → takes v lev.Unambiguous ≡ true → OneLess (bare c t) q → Obeys v c q → ⊥
+NeedsItsPairs t = (v : Precedence) (c : Context) (q : Tree) → takes v lev.Unambiguous ≡ true → OneLess (bare c t) q → Obeys v c q → ⊥
 
 wrong : (b : Bool) → b ≡ false → b ≡ true → ⊥
 wrong b h k = let r : false ≡ true = sym h ∙ k in absurd cc
 
 -- `none` says why the pair isn't asked for where the tree bare obeys.
-needed_put : (v : Level) (c : Context) (t q : Tree) (w : Bool) → takes v lev.Unambiguous ≡ true → NeedsItsPairs t
+needed_put : (v : Precedence) (c : Context) (t q : Tree) (w : Bool) → takes v lev.Unambiguous ≡ true → NeedsItsPairs t
     → (w ≡ true → q ≡ bare enclosed t → Obeys v c (bare enclosed t) → ⊥)
     → OneLess (put w (bare enclosed t) (bare c t)) q → Obeys v c q → ⊥
 needed_put v c t q true s h n o i =
@@ -81,7 +81,7 @@ needed_put v c t q true s h n o i =
     ]
 needed_put v c t q false s h n o i = h v c q s o i
 
-needed_place : (v : Level) (c : Context) (t q : Tree) → takes v lev.Unambiguous ≡ true → NeedsItsPairs t
+needed_place : (v : Precedence) (c : Context) (t q : Tree) → takes v lev.Unambiguous ≡ true → NeedsItsPairs t
     → OneLess (put (place_asks v c t) (bare enclosed t) (bare c t)) q → Obeys v c q → ⊥
 needed_place v c t q s h o i =
     needed_put v c t q (place_asks v c t) s h (λ w x j. wrong _ (not_asked v c t (tight t v c enclosed s j)) w) o i
@@ -93,7 +93,7 @@ needed_prefix k c t q h o i l =
     (λ w x j. wrong _ (or_from _ _ (not_asked (prefix_level k) c t (tight t (prefix_level k) c enclosed (prefix_small k) j))
     (no_bare_label k enclosed t refl (ap (λ y. is_bare_break k && begins_label y) (sym x) ∙ l))) w) o i
 
-needed_left : (v : Level) (k : Infix) (c : Context) (t q : Tree) → takes v lev.Unambiguous ≡ true → NeedsItsPairs t
+needed_left : (v : Precedence) (k : Infix) (c : Context) (t q : Tree) → takes v lev.Unambiguous ≡ true → NeedsItsPairs t
     → OneLess (put (left_asks k (left_context k c) t) (bare enclosed t) (bare (left_context k c) t)) q → Obeys v (left_context k c) q → FitsLeft k q → ⊥
 needed_left v k c t q s h o i z =
     needed_put v (left_context k c) t q (left_asks k (left_context k c) t) s h
@@ -103,7 +103,7 @@ needed_left v k c t q s h o i z =
     let b = ap (λ y. y && is_comparison k) (sym (compares_bare enclosed t) ∙ ap compares (sym x)) ∙ z.no_chain in
     wrong _ (or_from _ _ (left_bare k t (bad t (class_of k)) a b d.end d.refused) d.placed) w) o i
 
-needed_base : (v : Level) (k : Trailer) (c : Context) (t q : Tree) → takes v lev.Unambiguous ≡ true → NeedsItsPairs t
+needed_base : (v : Precedence) (k : Trailer) (c : Context) (t q : Tree) → takes v lev.Unambiguous ≡ true → NeedsItsPairs t
     → OneLess (put (base_asks k (base_context k c) t) (bare enclosed t) (bare (base_context k c) t)) q → is_base k q ≡ true → Obeys v (base_context k c) q → ⊥
 needed_base v k c t q s h o z i =
     needed_put v (base_context k c) t q (base_asks k (base_context k c) t) s h
@@ -116,7 +116,7 @@ prints_bare : (t : Tree) → prints_range (bare enclosed t) ≡ prints_range t
 prints_bare (leaf k) = refl
 prints_bare _ = refl
 
-needed_attributes : (v : Level) (c : Context) (t q : Tree) → takes v lev.Unambiguous ≡ true → NeedsItsPairs t
+needed_attributes : (v : Precedence) (c : Context) (t q : Tree) → takes v lev.Unambiguous ≡ true → NeedsItsPairs t
     → OneLess (put (is_operation t) (bare enclosed t) (bare c t)) q → is_operation q ≡ false → Obeys v c q → ⊥
 needed_attributes v c t q s h o z i =
     needed_put v c t q (is_operation t) s h

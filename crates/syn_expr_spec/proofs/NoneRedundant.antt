@@ -8,7 +8,7 @@ use Rattle.syn_tokens.specs.Front.{group_at}
 use Rattle.syn_lower_spec.specs.Pat.{an_index, a_name}
 use Rattle.syn_lower_spec.specs.Mark.{brace_at}
 use Rattle.syn_lower_spec.proofs.Weights.{some_is}
-use Rattle.syn_expr_spec.specs.declared.kinds.Level.TheVariants as lev
+use Rattle.syn_expr_spec.specs.declared.kinds.Precedence.TheVariants as lev
 use Rattle.syn_expr_spec.specs.declared.kinds.Place.{Place}
 use Rattle.syn_expr_spec.specs.declared.next.Next.TheVariants as next
 use Rattle.syn_expr_spec.specs.declared.next.Context.{Context}

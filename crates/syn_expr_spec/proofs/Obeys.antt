@@ -1,8 +1,8 @@
 -- The binding rules, said along a printed tree: of what follows a node, only its class is seen.
 use Rattle.std.proofs.Common.{◌≡◌, Bool, true, false, not, ◌&&◌, ◌||◌}
 use Rattle.syn_expr_spec.specs.declared.kinds.Infix.{Infix}
-use Rattle.syn_expr_spec.specs.declared.kinds.Level.{Level}
-use Rattle.syn_expr_spec.specs.declared.kinds.Level.TheVariants as lev
+use Rattle.syn_expr_spec.specs.declared.kinds.Precedence.{Precedence}
+use Rattle.syn_expr_spec.specs.declared.kinds.Precedence.TheVariants as lev
 use Rattle.syn_expr_spec.specs.declared.next.Next.{Next}
 use Rattle.syn_expr_spec.specs.declared.next.Next.TheVariants as next
 use Rattle.syn_expr_spec.specs.declared.next.Context.{Context}
@@ -14,7 +14,7 @@ use Rattle.syn_expr_spec.specs.Tree.{Tree, Children, leaf, paren, attributed, pr
 use Rattle.syn_expr_spec.specs.Rule.{is_operation, leaf_refuses, postfix_refuses, leaf_misplaced, prefix_misplaced, frame_misplaced, is_bare_break, leaf_labelled, frame_labelled}
 
 -- what a place asks of its occupant, with a token of this class after it
-pub record Fits (v : Level) (t : Tree) (n : Next) : Type 0 where
+pub record Fits (v : Precedence) (t : Tree) (n : Next) : Type 0 where
   pub no_operator : takes_next v n && not (is_range t) ≡ false
   pub no_trailer : trails n && (carries t || is_cast t) ≡ false
 
@@ -34,7 +34,7 @@ begins_label _ = false
 
 abbrev mutual
   -- A node and all below it at a place. What the place itself asks of its occupant stands apart.
-  pub Obeys : Level → Context → Tree → Type 0
+  pub Obeys : Precedence → Context → Tree → Type 0
   Obeys v c (leaf k) = leaf_refuses k c.next || leaf_misplaced c k ≡ false
   Obeys v c (paren m t) = Obeys lev.Jump enclosed t × Fits lev.Jump t next.End
   Obeys v c (attributed a more t) = (is_operation t ≡ false) × Obeys v (attributed_context c) t

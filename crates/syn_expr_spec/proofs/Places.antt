@@ -8,8 +8,8 @@ use Rattle.syn_expr_spec.specs.declared.kinds.BinKind.TheVariants as bin
 use Rattle.syn_expr_spec.specs.declared.kinds.Limits.TheVariants as limits
 use Rattle.syn_expr_spec.specs.declared.kinds.Infix.{Infix}
 use Rattle.syn_expr_spec.specs.declared.kinds.Infix.TheVariants as inf
-use Rattle.syn_expr_spec.specs.declared.kinds.Level.{Level}
-use Rattle.syn_expr_spec.specs.declared.kinds.Level.TheVariants as lev
+use Rattle.syn_expr_spec.specs.declared.kinds.Precedence.{Precedence}
+use Rattle.syn_expr_spec.specs.declared.kinds.Precedence.TheVariants as lev
 use Rattle.syn_expr_spec.specs.declared.kinds.Place.{Place}
 use Rattle.syn_expr_spec.specs.declared.next.Next.{Next}
 use Rattle.syn_expr_spec.specs.declared.next.Next.TheVariants as next
@@ -215,7 +215,7 @@ below_frame c e.match_expr b h = absurd (let f : true ≡ false = sym (rw b refl
 below_frame c _ b h = refl
 
 -- on the left at a head no block-like expression is
-no_block : (v : Level) (c : Context) (t : Tree) → is_below c.edge ≡ true → Obeys v c t → is_block_like t ≡ false
+no_block : (v : Precedence) (c : Context) (t : Tree) → is_below c.edge ≡ true → Obeys v c t → is_block_like t ≡ false
 no_block v c (leaf k) b h = below_leaf c k b (or_parts _ _ h).1
 no_block v c (paren m t) b h = refl
 no_block v c (attributed a more t) b h = no_block v (attributed_context c) t (below_attributed c.edge ∙ b) h.1
@@ -223,7 +223,7 @@ no_block v c (frame k ks) b h = below_frame c k b h.0
 no_block v c _ b h = refl
 
 -- left of an operator, a call or an index
-pub goes_free : (p : Place) (v : Level) (c d : Context) (t : Tree) → Meets p c → d.edge ≡ left_edge c.edge → Formed t → Obeys v d t → rests p (clear t) ≡ false
+pub goes_free : (p : Place) (v : Precedence) (c d : Context) (t : Tree) → Meets p c → d.edge ≡ left_edge c.edge → Formed t → Obeys v d t → rests p (clear t) ≡ false
 goes_free p v c d t m s f h = go c.edge refl
   where
     below : is_below d.edge ≡ true → rests p (clear t) ≡ false
@@ -258,7 +258,7 @@ pub closes_by : (p : Place) (x : Tree) (l : List Tok) → trailer_at l && (carri
 unfolding closes
 closes_by p x l h = not_and (trailer_at l) (carries x || is_cast x) _ h (none_behind (rests p x) l)
 
-pub fits_closes : (p : Place) (v : Level) (t : Tree) (n : Next) (l : List Tok) → Shows n l → Fits v t n → closes p (clear t) l ≡ true
+pub fits_closes : (p : Place) (v : Precedence) (t : Tree) (n : Next) (l : List Tok) → Shows n l → Fits v t n → closes p (clear t) l ≡ true
 fits_closes p v t n l s f = closes_by p (clear t) l (rw (ap (λ x. x.trailer) s.same, carries_clear t, cast_clear t) f.no_trailer)
 
 ends_or : (r w g a b : Bool) → g && not r ≡ false → r || (w || not (g || ((a && false) || (b && false)))) ≡ true
@@ -330,7 +330,7 @@ round_trails next.Parenthesis a b h g = g h
 round_trails next.End a b h g = refl
 round_trails _ a b h g = refl
 
-pub fits_calls : (v : Level) (t : Tree) (n : Next) → Fits v t n → Calls t n
+pub fits_calls : (v : Precedence) (t : Tree) (n : Next) → Fits v t n → Calls t n
 fits_calls v t n f = record { none = round_trails n (carries t || is_cast t) _ f.no_trailer (λ h. let p = or_parts _ _ h in or_from _ _ (named_carries t p.0) p.1) }
 
 pub left_calls : (t : Tree) (k : Infix) → Calls t (class_of k)
@@ -356,10 +356,10 @@ attributed_calls a more t n o h = record { none = ap (λ x. is_round_next n && (
 
 -- ---- operands of frames and trailers
 
-pub level_fits : (v w : Level) (t : Tree) (n : Next) → v ≡ w → Fits v t n → Fits w t n
+pub level_fits : (v w : Precedence) (t : Tree) (n : Next) → v ≡ w → Fits v t n → Fits w t n
 level_fits v w t n e f = subst (λ x. Fits x t n) e f
 
-pub level_obeys : (v w : Level) (c : Context) (t : Tree) → v ≡ w → Obeys v c t → Obeys w c t
+pub level_obeys : (v w : Precedence) (c : Context) (t : Tree) → v ≡ w → Obeys v c t → Obeys w c t
 level_obeys v w c t e h = subst (λ x. Obeys x c t) e h
 
 -- nothing that follows an operand in a place of its own goes on with it

@@ -5,7 +5,7 @@ use Rattle.syn_tokens.specs.Tok.{Tok, group}
 use Rattle.syn_tokens.specs.Front.{group_at, is_empty}
 use Rattle.syn_lower_spec.specs.Mark.{brace_at, comma, semi}
 use Rattle.syn_lower_spec.proofs.Ends.{sign_first}
-use Rattle.syn_expr_spec.specs.declared.kinds.Level.TheVariants as lev
+use Rattle.syn_expr_spec.specs.declared.kinds.Precedence.TheVariants as lev
 use Rattle.syn_expr_spec.specs.declared.kinds.Place.{Place}
 use Rattle.syn_expr_spec.specs.declared.next.Next.TheVariants as next
 use Rattle.syn_expr_spec.specs.declared.next.Context.{Context}

@@ -3,7 +3,7 @@ use Rattle.std.specs.Prelude.{not, ◌&&◌, ◌||◌, if◌then◌else◌}
 use Rattle.std.proofs.Common.{◌≡◌, Bool, true, false, ◌∷◌, refl, ◌∙◌, ap}
 use Rattle.syn_lower_spec.specs.PatFits.{attributes_outer}
 use Rattle.syn_expr_spec.specs.declared.next.Context.{Context}
-use Rattle.syn_expr_spec.specs.declared.kinds.Level.TheVariants as lev
+use Rattle.syn_expr_spec.specs.declared.kinds.Precedence.TheVariants as lev
 use Rattle.syn_expr_spec.specs.declared.kinds.Infix.{Infix}
 use Rattle.syn_expr_spec.specs.Op.{level}
 use Rattle.syn_expr_spec.specs.Next.{enclosed, in_statement, prefix_context, left_context, right_context, base_context, attributed_context, piece_context}

@@ -13,8 +13,8 @@ use Rattle.syn_lower_spec.specs.Pat.{an_index, a_name}
 use Rattle.syn_lower_spec.specs.Mark.{lt, brace_at}
 use Rattle.syn_lower_spec.specs.Ends.{ends_open}
 use Rattle.syn_lower_spec.proofs.Weights.{some_is}
-use Rattle.syn_expr_spec.specs.declared.kinds.Level.{Level}
-use Rattle.syn_expr_spec.specs.declared.kinds.Level.TheVariants as lev
+use Rattle.syn_expr_spec.specs.declared.kinds.Precedence.{Precedence}
+use Rattle.syn_expr_spec.specs.declared.kinds.Precedence.TheVariants as lev
 use Rattle.syn_expr_spec.specs.declared.kinds.Infix.{Infix}
 use Rattle.syn_expr_spec.specs.declared.kinds.Place.{Place}
 use Rattle.syn_expr_spec.specs.declared.next.Next.{Next}
@@ -55,7 +55,7 @@ field_context i c = base_context (e.field (an_index i)) c
 field_twice : (i j : ℕ) (c : Context) → field_context i (field_context j c) ≡ field_context i c
 field_twice i j c = ap (λ x. record { condition = c.condition; edge = x; next = next.Dot }) (dot_twice c.edge)
 
-obeys_fields : (is : List ℕ) (i : ℕ) (v : Level) (c : Context) (b : Tree) → is_base (e.field (an_index i)) b ≡ true → Obeys v (field_context i c) b → Obeys v c (fields_of b (i ∷ is))
+obeys_fields : (is : List ℕ) (i : ℕ) (v : Precedence) (c : Context) (b : Tree) → is_base (e.field (an_index i)) b ≡ true → Obeys v (field_context i c) b → Obeys v c (fields_of b (i ∷ is))
 obeys_fields [] i v c b h o = (h, o, tt)
 obeys_fields (j ∷ is) i v c b h o =
     obeys_fields is j v c (tail b (e.field (an_index i)) none) refl
@@ -206,7 +206,7 @@ operation_range (leaf k) o i = o
 operation_range (prefixed k gs t) o i = o
 operation_range _ o i = absurd cc
 
-any_level : (x : Tree) (v w : Level) (c : Context) → is_operation x ≡ true → is_infix x ≡ false → Obeys v c (parenthesize_attributed x) → Obeys w c (parenthesize_attributed x)
+any_level : (x : Tree) (v w : Precedence) (c : Context) → is_operation x ≡ true → is_infix x ≡ false → Obeys v c (parenthesize_attributed x) → Obeys w c (parenthesize_attributed x)
 any_level (leaf k) v w c o i h = h
 any_level (paren m t) v w c o i h = h
 any_level (prefixed k gs t) v w c o i h = h
@@ -263,7 +263,7 @@ same_kind (is_attributed_by {p = p} {x = x} f g d) h = same_behind x _ _ (no_ope
 same_kind (is_indexed {b = b} {i = i} {is = is} d f t q) h = subst SameKind (sym q) (same_fields (i ∷ is) b (same_kind d h))
 same_kind _ h = record { range = refl; carrier = refl }
 
-fits_kind : (v : Level) (x : Tree) (n : Next) → SameKind x → Fits v x n → Fits v (parenthesize_attributed x) n
+fits_kind : (v : Precedence) (x : Tree) (n : Next) → SameKind x → Fits v x n → Fits v (parenthesize_attributed x) n
 fits_kind v x n s f =
     record {
       no_operator = ap (λ b. takes_next v n && not b) s.range ∙ f.no_operator;

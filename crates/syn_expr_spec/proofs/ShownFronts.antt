@@ -17,7 +17,7 @@ use Rattle.syn_expr_spec.specs.declared.kinds.BinKind.TheVariants as bin
 use Rattle.syn_expr_spec.specs.declared.kinds.Limits.TheVariants as limits
 use Rattle.syn_expr_spec.specs.declared.kinds.Infix.{Infix}
 use Rattle.syn_expr_spec.specs.declared.kinds.Infix.TheVariants as inf
-use Rattle.syn_expr_spec.specs.declared.kinds.Level.{Level}
+use Rattle.syn_expr_spec.specs.declared.kinds.Precedence.{Precedence}
 use Rattle.syn_expr_spec.specs.declared.next.Next.{Next}
 use Rattle.syn_expr_spec.specs.declared.next.Next.TheVariants as next
 use Rattle.syn_expr_spec.specs.Op.{Entry, level, infix_at, goes_on, counted, longest, entries}
@@ -32,7 +32,7 @@ asked = true
 
 -- What a class stands for is seen in front of l. The class `End` says nothing.
 pub record Front (n : Next) (l : List Tok) : Type 0 where
-  pub op : (v : Level) → takes_next v n ≡ true → goes_on v l ≡ true
+  pub op : (v : Precedence) → takes_next v n ≡ true → goes_on v l ≡ true
   pub trailer : trails n ≡ true → trailer_at l ≡ true
   pub begin : begins_next n ≡ true → begins_expr l ≡ true
   pub stops : begins_next n ≡ true → ends_open_range false l ≡ false
@@ -324,7 +324,7 @@ quiet_class : (k : Infix) → trails (class_of k) ≡ false
 quiet_class (inf.Binary bin.Add) = refl
 quiet_class _ = refl
 
-op_front : (l : List Tok) (k : Infix) (c : ℕ) → infix_at l ≡ Some (k, c) → (v : Level) → takes_next v (class_of k) ≡ true → goes_on v l ≡ true
+op_front : (l : List Tok) (k : Infix) (c : ℕ) → infix_at l ≡ Some (k, c) → (v : Precedence) → takes_next v (class_of k) ≡ true → goes_on v l ≡ true
 unfolding goes_on
 op_front l k c h v t = rw h (rw (level_class k) at t)
 

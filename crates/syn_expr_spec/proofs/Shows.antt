@@ -12,7 +12,7 @@ use Rattle.syn_expr_spec.specs.declared.kinds.BinKind.TheVariants as bin
 use Rattle.syn_expr_spec.specs.declared.kinds.Limits.TheVariants as limits
 use Rattle.syn_expr_spec.specs.declared.kinds.Infix.{Infix}
 use Rattle.syn_expr_spec.specs.declared.kinds.Infix.TheVariants as inf
-use Rattle.syn_expr_spec.specs.declared.kinds.Level.{Level}
+use Rattle.syn_expr_spec.specs.declared.kinds.Precedence.{Precedence}
 use Rattle.syn_expr_spec.specs.declared.next.Next.{Next}
 use Rattle.syn_expr_spec.specs.declared.next.Next.TheVariants as next
 use Rattle.syn_expr_spec.specs.Op.{level, infix_at, goes_on, takes_by}
@@ -29,7 +29,7 @@ looking = true
 
 -- all that is asked of the front of a list
 pub record Seen : Type 0 where
-  pub operator : Option Level
+  pub operator : Option Precedence
   pub dots : Bool
   pub arrow : Bool
   pub trailer : Bool
@@ -48,7 +48,7 @@ pub record Seen : Type 0 where
   pub constant : Bool
   pub otherwise : Bool
 
-abbrev pub level_at : Option (Infix × ℕ) → Option Level
+abbrev pub level_at : Option (Infix × ℕ) → Option Precedence
 level_at None = None
 level_at (Some p) = Some (level p.0)
 
@@ -104,11 +104,11 @@ seen n = record {
 pub record Shows (n : Next) (l : List Tok) : Type 0 where
   pub same : look l ≡ seen n
 
-takes_at : (v : Level) (o : Option (Infix × ℕ)) (w : Next) → level_at o ≡ level_of w → takes_by v o ≡ takes_next v w
+takes_at : (v : Precedence) (o : Option (Infix × ℕ)) (w : Next) → level_at o ≡ level_of w → takes_by v o ≡ takes_next v w
 takes_at v None w h = rw (← h) refl
 takes_at v (Some p) w h = rw (← h) refl
 
-pub shows_op : (n : Next) (l : List Tok) → Shows n l → (v : Level) → goes_on v l ≡ takes_next v n
+pub shows_op : (n : Next) (l : List Tok) → Shows n l → (v : Precedence) → goes_on v l ≡ takes_next v n
 unfolding goes_on
 shows_op n l s v = takes_at v (infix_at l) n (ap (λ x. x.operator) s.same)
 

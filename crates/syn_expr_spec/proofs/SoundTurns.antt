@@ -21,7 +21,7 @@ use Rattle.syn_lower_spec.specs.Mark.{pound, round_at}
 use Rattle.syn_lower_spec.proofs.Weights.{some_is}
 use Rattle.syn_expr_spec.specs.declared.kinds.Limits.TheVariants as limits
 use Rattle.syn_expr_spec.specs.declared.kinds.Infix.TheVariants as inf
-use Rattle.syn_expr_spec.specs.declared.kinds.Level.{Level}
+use Rattle.syn_expr_spec.specs.declared.kinds.Precedence.{Precedence}
 use Rattle.syn_expr_spec.specs.Front.{ends_open_range, dot_at, question_at, bracket_at}
 use Rattle.syn_expr_spec.specs.Head.{dotted, await_word, method_at}
 use Rattle.syn_expr_spec.specs.Slot.{trailer_holder}
@@ -69,7 +69,7 @@ record Open (p : Place) (l : List Tok) (q : Tree × List Tok) : Type 0 where
 opened : {p : Place} {l : List Tok} (q r : Tree × List Tok) → q ≡ r → Open p l q → Open p l r
 opened {p} {l} q r h d = subst (λ (s : Tree × List Tok). Open p l s) h d
 
-taken_some : (v : Level) (i o : Option (Infix × ℕ)) (k : Infix × ℕ) → i ≡ o → taken_by v o ≡ Some k → (i ≡ Some k) × (takes v (level k.0) ≡ true)
+taken_some : (v : Precedence) (i o : Option (Infix × ℕ)) (k : Infix × ℕ) → i ≡ o → taken_by v o ≡ Some k → (i ≡ Some k) × (takes v (level k.0) ≡ true)
 taken_some v i None k a h = absurd cc
 taken_some v i (Some o) k a h =
     let (t, c) = only_some (takes v (level o.0)) (Some o) k h in

@@ -15,7 +15,7 @@ use Rattle.syn_lower_spec.proofs.Whole.{parts_read_back}
 use Rattle.syn_expr_spec.specs.declared.kinds.Limits.TheVariants as limits
 use Rattle.syn_expr_spec.specs.declared.kinds.Infix.{Infix}
 use Rattle.syn_expr_spec.specs.declared.kinds.Infix.TheVariants as inf
-use Rattle.syn_expr_spec.specs.declared.kinds.Level.{Level}
+use Rattle.syn_expr_spec.specs.declared.kinds.Precedence.{Precedence}
 use Rattle.syn_expr_spec.specs.declared.kinds.Place.{Place}
 use Rattle.syn_expr_spec.specs.declared.next.Next.{Next}
 use Rattle.syn_expr_spec.specs.declared.next.Edge.{Edge}
@@ -154,7 +154,7 @@ braceless_base e.await edge.NoBrace h = refl
 braceless_base e.try_expr edge.NoBrace h = refl
 braceless_base k x h = absurd cc
 
-pub no_brace : (v : Level) (c : Context) (t : Tree) → is_braceless c.edge ≡ true → Obeys v c t → begins_brace t ≡ false
+pub no_brace : (v : Precedence) (c : Context) (t : Tree) → is_braceless c.edge ≡ true → Obeys v c t → begins_brace t ≡ false
 no_brace v c (leaf (e.block None b)) i h = absurd (let f : true ≡ false = sym i ∙ (or_parts (is_below c.edge) (is_braceless c.edge) h).1 in cc)
 no_brace v c (leaf (e.block (Some w) b)) i h = refl
 no_brace v c (infixed x k y) i h = no_brace v (left_context k c) x (braceless_left c.edge i) h.1
@@ -167,7 +167,7 @@ braced_so true h = refl
 braced_so false h = absurd cc
 
 -- in a condition no brace is the first token there
-free_of_brace : (p : Place) (c d : Context) (v : Level) (w b : Bool) (t : Tree) (l : List Tok) → Meets p c → d.edge ≡ braceless (w && c.condition) → Obeys v d t
+free_of_brace : (p : Place) (c d : Context) (v : Precedence) (w b : Bool) (t : Tree) (l : List Tok) → Meets p c → d.edge ≡ braceless (w && c.condition) → Obeys v d t
     → brace_at l ≡ begins_brace t → w ≡ true → p.condition && brace_at l ≡ false
 free_of_brace p c d v w b t l m g h e i = go c.condition refl
   where

@@ -10,7 +10,7 @@ use Rattle.syn_lower_spec.specs.Form.{Outcome}
 use Rattle.syn_lower_spec.specs.Mark.{comma}
 use Rattle.syn_lower_spec.specs.Pat.{a_name, an_index, dots}
 use Rattle.syn_lower_spec.proofs.Weights.{some_is}
-use Rattle.syn_expr_spec.specs.declared.kinds.Level.TheVariants as lev
+use Rattle.syn_expr_spec.specs.declared.kinds.Precedence.TheVariants as lev
 use Rattle.syn_expr_spec.specs.declared.kinds.Place.{Place}
 use Rattle.syn_expr_spec.specs.Next.{enclosed}
 use Rattle.syn_expr_spec.specs.Tree as e

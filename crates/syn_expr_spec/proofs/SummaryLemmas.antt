@@ -7,8 +7,8 @@ use Rattle.std.proofs.lemmas.List.{length-append}
 use Rattle.std.proofs.Math.Nat.{pow-suc}
 use Rattle.std.proofs.Math.Bool.{and-false, or-false, and-true, and_assoc}
 use Rattle.syn_expr_spec.specs.declared.kinds.Infix.{Infix}
-use Rattle.syn_expr_spec.specs.declared.kinds.Level.{Level}
-use Rattle.syn_expr_spec.specs.declared.kinds.Level.TheVariants as lev
+use Rattle.syn_expr_spec.specs.declared.kinds.Precedence.{Precedence}
+use Rattle.syn_expr_spec.specs.declared.kinds.Precedence.TheVariants as lev
 use Rattle.syn_expr_spec.specs.declared.next.Next.{Next}
 use Rattle.syn_expr_spec.specs.declared.next.Next.TheVariants as next
 use Rattle.syn_expr_spec.specs.declared.next.Context.{Context}
@@ -143,10 +143,10 @@ attributed_place false s c b h = attributed_sorted s c ∙ h
 
 -- ---- what the owner of a place asks
 
-pub wrapped_same : (v : Level) (x : Summary) (t : Tree) (n : Next) → Summarizes x t → wrapped_by v x n ≡ place_wrapped v t n (low t) (bad t n)
+pub wrapped_same : (v : Precedence) (x : Summary) (t : Tree) (n : Next) → Summarizes x t → wrapped_by v x n ≡ place_wrapped v t n (low t) (bad t n)
 wrapped_same v x t n h = rw (h.low_is, h.ends_is n) refl
 
-end_same : (v : Level) (x : Summary) (t : Tree) (n : Next) (w u : Bool) → Summarizes x t → w ≡ u → end_by v x n w ≡ ends_badly v t n u
+end_same : (v : Precedence) (x : Summary) (t : Tree) (n : Next) (w u : Bool) → Summarizes x t → w ≡ u → end_by v x n w ≡ ends_badly v t n u
 end_same v x t n w u h p = rw (h.range_is, h.carries_is, p) refl
 
 pub left_same : (k : Infix) (x : Summary) (t : Tree) → Summarizes x t → left_wrapped_by k x ≡ left_wrapped k t (bad t (class_of k))

@@ -3,8 +3,8 @@ use Rattle.std.proofs.Common.{◌≡◌, Bool, true, false, not, ◌&&◌, ◌||
 use Rattle.std.specs.Prelude.{if◌then◌else◌}
 use Rattle.std.proofs.lemmas.Bool.{or_parts, or_from}
 use Rattle.std.proofs.Math.Bool.{or-false}
-use Rattle.syn_expr_spec.specs.declared.kinds.Level.{Level}
-use Rattle.syn_expr_spec.specs.declared.kinds.Level.TheVariants as lev
+use Rattle.syn_expr_spec.specs.declared.kinds.Precedence.{Precedence}
+use Rattle.syn_expr_spec.specs.declared.kinds.Precedence.TheVariants as lev
 use Rattle.syn_expr_spec.specs.declared.next.Next.{Next}
 use Rattle.syn_expr_spec.specs.declared.next.Edge.{Edge}
 use Rattle.syn_expr_spec.specs.declared.next.Edge.TheVariants as edge
@@ -111,7 +111,7 @@ all_of true b h = absurd cc
 all_of false b h = refl
 
 -- x: for another reason
-tight_end : (v : Level) (c c0 : Context) (t : Tree) (w x : Bool) → (Obeys v c (bare c0 t) → Tight v c t) → (w ≡ false → x ≡ false)
+tight_end : (v : Precedence) (c c0 : Context) (t : Tree) (w x : Bool) → (Obeys v c (bare c0 t) → Tight v c t) → (w ≡ false → x ≡ false)
     → Obeys v c (put w (bare enclosed t) (bare c0 t)) → Fits v (put w (bare enclosed t) (bare c0 t)) c.next
     → ends_badly v t c.next (place_wrapped v t c.next (low t) (bad t c.next) || x) ≡ false
 tight_end v c c0 t true x g y i p = or_from _ _ (all_of _ _ p.no_operator) (all_of _ _ p.no_trailer)
@@ -127,18 +127,18 @@ misplaced_low c (postfixed x k) h = absurd cc
 misplaced_low c _ h = refl
 
 -- the operators on the left edge; l: the left operand is in parentheses, m: since it is misplaced
-tight_left : (v : Level) (a : Level) (c : Context) (x p q : Tree) (l m : Bool) → takes v lev.Unambiguous ≡ true → takes v a ≡ true → (m ≡ true → low x ≡ lev.Unambiguous)
+tight_left : (v : Precedence) (a : Precedence) (c : Context) (x p q : Tree) (l m : Bool) → takes v lev.Unambiguous ≡ true → takes v a ≡ true → (m ≡ true → low x ≡ lev.Unambiguous)
     → (Obeys v c q → Tight v c x) → Obeys v c (put (l || m) p q) → takes v (lower a (if l then lev.Unambiguous else low x)) ≡ true
 tight_left v a c x p q true m s h f g i = lower_takes v a lev.Unambiguous h s
 tight_left v a c x p q false true s h f g i = lower_takes v a (low x) h (ap (takes v) (f refl) ∙ s)
 tight_left v a c x p q false false s h f g i = lower_takes v a (low x) h (g i).edge
 
-tight_attributed : (v : Level) (c c0 : Context) (t : Tree) (w : Bool) → is_operation t ≡ w → (Obeys v c (bare c0 t) → Tight v c t)
+tight_attributed : (v : Precedence) (c c0 : Context) (t : Tree) (w : Bool) → is_operation t ≡ w → (Obeys v c (bare c0 t) → Tight v c t)
     → Obeys v c (put w (bare enclosed t) (bare c0 t)) → (not w && bad t c.next ≡ false) × (not w && refuses t c.next ≡ false) × (not w && misplaced c t ≡ false)
 tight_attributed v c c0 t true h g i = (refl, refl, refl)
 tight_attributed v c c0 t false h g i = let k = g i in (k.end, k.refused, k.placed)
 
-pub tight : (t : Tree) → (v : Level) (c c0 : Context) → takes v lev.Unambiguous ≡ true → Obeys v c (bare c0 t) → Tight v c t
+pub tight : (t : Tree) → (v : Precedence) (c c0 : Context) → takes v lev.Unambiguous ≡ true → Obeys v c (bare c0 t) → Tight v c t
 tight (leaf k) v c c0 s i = let p = or_parts _ _ i in record { edge = s; end = refl; refused = p.0; placed = p.1 }
 tight (paren m t) v c c0 s i = record { edge = s; end = refl; refused = refl; placed = refl }
 tight (attributed a more t) v c c0 s i =

@@ -1,8 +1,8 @@
 -- Marks play no part in the binding rules.
 use Rattle.std.proofs.Common.{◌≡◌, not, ◌&&◌, ◌||◌, refl, sym, ◌∙◌, ap}
 use Rattle.syn_expr_spec.specs.declared.kinds.Infix.{Infix}
-use Rattle.syn_expr_spec.specs.declared.kinds.Level.{Level}
-use Rattle.syn_expr_spec.specs.declared.kinds.Level.TheVariants as lev
+use Rattle.syn_expr_spec.specs.declared.kinds.Precedence.{Precedence}
+use Rattle.syn_expr_spec.specs.declared.kinds.Precedence.TheVariants as lev
 use Rattle.syn_expr_spec.specs.declared.next.Next.{Next}
 use Rattle.syn_expr_spec.specs.declared.next.Next.TheVariants as next
 use Rattle.syn_expr_spec.specs.declared.next.Context.{Context}
@@ -28,7 +28,7 @@ label_clear (postfixed x k) = label_clear x
 label_clear (tail b k ks) = label_clear b
 label_clear _ = refl
 
-fits_unclear : (v : Level) (t : Tree) (n : Next) → Fits v (clear t) n → Fits v t n
+fits_unclear : (v : Precedence) (t : Tree) (n : Next) → Fits v (clear t) n → Fits v t n
 fits_unclear v t n f = record {
   no_operator = ap (λ b. takes_next v n && not b) (sym (range_clear t)) ∙ f.no_operator;
   no_trailer = rw (← carries_clear t, ← cast_clear t) f.no_trailer;
@@ -41,7 +41,7 @@ left_unclear k t f = record {
 }
 
 mutual
-  pub unclear : (t : Tree) (v : Level) (c : Context) → Obeys v c (clear t) → Obeys v c t
+  pub unclear : (t : Tree) (v : Precedence) (c : Context) → Obeys v c (clear t) → Obeys v c t
   unclear (leaf k) v c i = i
   unclear (paren m t) v c i = (unclear t lev.Jump enclosed i.0, fits_unclear lev.Jump t next.End i.1)
   unclear (attributed a more t) v c i = (sym (operation_clear t) ∙ i.0, unclear t v (attributed_context c) i.1)

@@ -7,7 +7,7 @@ use Rattle.syn_lower_spec.specs.Form.{flag}
 use Rattle.syn_lower_spec.specs.Mark.{and, mutable}
 use Rattle.syn_lower_spec.specs.Part.{MacroTree, lit, macro, outer_attributes, qpath, type}
 use Rattle.syn_expr_spec.specs.declared.kinds.Infix.TheVariants as inf
-use Rattle.syn_expr_spec.specs.declared.kinds.Level.TheVariants as lev
+use Rattle.syn_expr_spec.specs.declared.kinds.Precedence.TheVariants as lev
 use Rattle.syn_expr_spec.specs.Place.{plain, at}
 use Rattle.syn_expr_spec.specs.Tree as e
 use Rattle.syn_expr_spec.specs.Tree.{Tree, Children, leaf, paren, attributed, prefixed, infixed, tail, frame, none, child, attributed_with}

@@ -4,8 +4,8 @@ use Rattle.syn_expr_spec.specs.declared.kinds.BinKind.{BinKind}
 use Rattle.syn_expr_spec.specs.declared.kinds.Limits.TheVariants as limits
 use Rattle.syn_expr_spec.specs.declared.kinds.Infix.{Infix}
 use Rattle.syn_expr_spec.specs.declared.kinds.Infix.TheVariants as inf
-use Rattle.syn_expr_spec.specs.declared.kinds.Level.{Level}
-use Rattle.syn_expr_spec.specs.declared.kinds.Level.TheVariants as lev
+use Rattle.syn_expr_spec.specs.declared.kinds.Precedence.{Precedence}
+use Rattle.syn_expr_spec.specs.declared.kinds.Precedence.TheVariants as lev
 use Rattle.syn_expr_spec.specs.declared.next.Next.{Next}
 use Rattle.syn_expr_spec.specs.declared.next.Next.TheVariants as next
 use Rattle.syn_expr_spec.specs.declared.next.Edge.{Edge}
@@ -36,7 +36,7 @@ next_of e.try_expr = next.Question
 next_of _ = next.Dot
 
 -- the level of an operator of the class, none where it is no operator
-abbrev pub level_of : Next → Option Level
+abbrev pub level_of : Next → Option Precedence
 level_of next.Assign = Some lev.Assign
 level_of next.ShiftLeftAssign = Some lev.Assign
 level_of next.Range = Some lev.Range
@@ -56,12 +56,12 @@ level_of next.Divide = Some lev.Product
 level_of next.As = Some lev.Cast
 level_of _ = None
 
-abbrev takes_some : Level → Option Level → Bool
+abbrev takes_some : Precedence → Option Precedence → Bool
 takes_some v None = false
 takes_some v (Some w) = takes v w
 
 -- a place of the level takes an operator of the class
-abbrev pub takes_next : Level → Next → Bool
+abbrev pub takes_next : Precedence → Next → Bool
 takes_next v n = takes_some v (level_of n)
 
 -- a trailer begins with a token of the class
@@ -176,7 +176,7 @@ prefix_next (e.jump j) n = without_block n
 prefix_next k n = n
 
 -- the level of the place of an operand after its prefix
-abbrev pub prefix_level : Prefix → Level
+abbrev pub prefix_level : Prefix → Precedence
 prefix_level (e.range_to op) = lev.Range
 prefix_level (e.let_expr p) = lev.Let
 prefix_level (e.jump j) = lev.Jump

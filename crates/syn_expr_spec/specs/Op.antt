@@ -12,14 +12,14 @@ use Rattle.syn_expr_spec.specs.declared.kinds.Limits.{Limits}
 use Rattle.syn_expr_spec.specs.declared.kinds.Limits.TheVariants as limits
 use Rattle.syn_expr_spec.specs.declared.kinds.Infix.{Infix}
 use Rattle.syn_expr_spec.specs.declared.kinds.Infix.TheVariants as inf
-use Rattle.syn_expr_spec.specs.declared.kinds.Level.{Level}
-use Rattle.syn_expr_spec.specs.declared.kinds.Level.TheVariants as lev
+use Rattle.syn_expr_spec.specs.declared.kinds.Precedence.{Precedence}
+use Rattle.syn_expr_spec.specs.declared.kinds.Precedence.TheVariants as lev
 use Rattle.syn_expr_spec.specs.declared.next.Next.{Next}
 use Rattle.syn_expr_spec.specs.declared.next.Next.TheVariants as next
 use Rattle.syn_expr_spec.specs.Place.{takes}
 
 -- the binary operators: the text of each, its level, and its class of tokens
-abbrev pub operator : BinKind → Text × Level × Next
+abbrev pub operator : BinKind → Text × Precedence × Next
 operator bin.Add = (codes "+", lev.Sum, next.Plus)
 operator bin.Sub = (codes "-", lev.Sum, next.Minus)
 operator bin.Mul = (codes "*", lev.Product, next.Star)
@@ -52,7 +52,7 @@ operator bin.ShrAssign = (codes ">>=", lev.Assign, next.Assign)
 abbrev pub binary_text : BinKind → Text
 binary_text op = (operator op).0
 
-abbrev pub binary_level : BinKind → Level
+abbrev pub binary_level : BinKind → Precedence
 binary_level op = (operator op).1
 
 abbrev pub limits_text : Limits → Text
@@ -65,13 +65,13 @@ unary_text un.Not = codes "!"
 unary_text un.Neg = codes "-"
 
 -- the level of an infix operator, which is that of its right operand's place too
-abbrev pub level : Infix → Level
+abbrev pub level : Infix → Precedence
 level (inf.Binary op) = binary_level op
 level inf.Assign = lev.Assign
 level (inf.Range op) = lev.Range
 level inf.Cast = lev.Cast
 
-abbrev pub is_compare : Level → Bool
+abbrev pub is_compare : Precedence → Bool
 is_compare lev.Compare = true
 is_compare _ = false
 
@@ -125,9 +125,9 @@ unfoldable pub infix_at : List Tok → Option (Infix × ℕ)
 infix_at l = if word_at (codes "as") l then Some (inf.Cast, 1) else longest entries l
 
 -- an operator is at the front that an expression at this level takes
-abbrev pub takes_by : Level → Option (Infix × ℕ) → Bool
+abbrev pub takes_by : Precedence → Option (Infix × ℕ) → Bool
 takes_by v None = false
 takes_by v (Some p) = takes v (level p.0)
 
-unfoldable pub goes_on : Level → List Tok → Bool
+unfoldable pub goes_on : Precedence → List Tok → Bool
 goes_on v l = takes_by v (infix_at l)

@@ -1,11 +1,11 @@
 -- Where an expression is, and how tightly the levels bind (Rust Reference, "Expression precedence").
 use Rattle.std.specs.Prelude.{ℕ, Bool, true, false, ◌&&◌, ◌||◌, nat_lt}
-use Rattle.syn_expr_spec.specs.declared.kinds.Level.{Level}
-use Rattle.syn_expr_spec.specs.declared.kinds.Level.TheVariants as lev
+use Rattle.syn_expr_spec.specs.declared.kinds.Precedence.{Precedence}
+use Rattle.syn_expr_spec.specs.declared.kinds.Precedence.TheVariants as lev
 use Rattle.syn_expr_spec.specs.declared.kinds.Place.{Place}
 
 -- the levels in order, the loosest first
-abbrev pub rank : Level → ℕ
+abbrev pub rank : Precedence → ℕ
 rank lev.Jump = 0
 rank lev.Assign = 1
 rank lev.Range = 2
@@ -24,16 +24,16 @@ rank lev.Prefix = 14
 rank lev.Unambiguous = 15
 
 -- the level v binds tighter than w
-abbrev pub above : Level → Level → Bool
+abbrev pub above : Precedence → Precedence → Bool
 above v w = nat_lt (rank w) (rank v)
 
-abbrev pub is_assign : Level → Bool
+abbrev pub is_assign : Precedence → Bool
 is_assign lev.Assign = true
 is_assign _ = false
 
 -- An expression at the level v takes the infix operators above it, and one at Assign those of Assign too: these group
 -- to the right.
-abbrev pub takes : Level → Level → Bool
+abbrev pub takes : Precedence → Precedence → Bool
 takes v w = above w v || (is_assign v && is_assign w)
 
 -- the whole of a list, and what is inside of delimiters
@@ -49,5 +49,5 @@ abbrev pub at_head : Place
 at_head = record { level = lev.Jump; condition = false; head = true }
 
 -- the place of a right operand, or of the operand after a prefix operator: the mode stays, a head it is no more
-abbrev pub at : Place → Level → Place
+abbrev pub at : Place → Precedence → Place
 at p v = record { level = v; condition = p.condition; head = false }

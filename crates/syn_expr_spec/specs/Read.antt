@@ -14,7 +14,7 @@ use Rattle.syn_lower_spec.specs.Pat.{an_index}
 use Rattle.syn_expr_spec.specs.declared.kinds.Infix.{Infix}
 use Rattle.syn_expr_spec.specs.declared.kinds.Infix.TheVariants as inf
 use Rattle.syn_expr_spec.specs.declared.kinds.Limits.TheVariants as limits
-use Rattle.syn_expr_spec.specs.declared.kinds.Level.{Level}
+use Rattle.syn_expr_spec.specs.declared.kinds.Precedence.{Precedence}
 use Rattle.syn_expr_spec.specs.declared.kinds.Place.{Place}
 use Rattle.syn_expr_spec.specs.Place.{plain, before_block, at, takes}
 use Rattle.syn_expr_spec.specs.Path.{expr_path, invisible_at}
@@ -81,11 +81,11 @@ unfoldable pub stop : Place → Tree → Reading Tree
 stop p x l = if ends p x l then Some (x, l) else None
 
 -- the operator that an expression at this level takes next, and how many tokens it is
-abbrev pub taken_by : Level → Option (Infix × ℕ) → Option (Infix × ℕ)
+abbrev pub taken_by : Precedence → Option (Infix × ℕ) → Option (Infix × ℕ)
 taken_by v None = None
 taken_by v (Some o) = if takes v (level o.0) then Some o else None
 
-unfoldable pub taken_at : Level → List Tok → Option (Infix × ℕ)
+unfoldable pub taken_at : Precedence → List Tok → Option (Infix × ℕ)
 taken_at v l = taken_by v (infix_at l)
 
 -- a range takes none, nor does a block-like expression at a head

@@ -6,8 +6,8 @@ use Rattle.syn_lexer.specs.declared.front.Delimiter.TheVariants as del
 use Rattle.syn_lower_spec.specs.Ends.{ends_open}
 use Rattle.syn_lower_spec.specs.Form.{is_nil}
 use Rattle.syn_expr_spec.specs.declared.kinds.Infix.{Infix}
-use Rattle.syn_expr_spec.specs.declared.kinds.Level.{Level}
-use Rattle.syn_expr_spec.specs.declared.kinds.Level.TheVariants as lev
+use Rattle.syn_expr_spec.specs.declared.kinds.Precedence.{Precedence}
+use Rattle.syn_expr_spec.specs.declared.kinds.Precedence.TheVariants as lev
 use Rattle.syn_expr_spec.specs.declared.next.Next.{Next}
 use Rattle.syn_expr_spec.specs.declared.next.Next.TheVariants as next
 use Rattle.syn_expr_spec.specs.declared.next.Edge.{Edge}
@@ -121,12 +121,12 @@ self_wrapped c t = refuses t c.next || misplaced c t
 
 -- ---- the ends of a node, with its operands as printed
 
-abbrev pub lower : Level → Level → Level
+abbrev pub lower : Precedence → Precedence → Precedence
 lower v w = if above v w then w else v
 
 -- The owner of a place must not have this after it: an operator that the place takes, unless a bare range is there,
 -- or a trailer that the occupant could carry. `wrapped`: the occupant is in parentheses.
-abbrev pub ends_badly : Level → Tree → Next → Bool → Bool
+abbrev pub ends_badly : Precedence → Tree → Next → Bool → Bool
 ends_badly v t n wrapped = (takes_next v n && not (not wrapped && prints_range t)) || (trails n && (wrapped || prints_carrier t))
 
 -- the value of a `break` without a label begins with a lifetime
@@ -154,12 +154,12 @@ abbrev pub base_wrapped : Trailer → Tree → Bool → Bool
 base_wrapped k b takes_it = not (is_base k b) || (takes_it || refuses b (next_of k))
 
 -- The occupant of a place: an operator on its bare left edge is not above the place, or its right end takes what follows.
-abbrev pub place_wrapped : Level → Tree → Next → Level → Bool → Bool
+abbrev pub place_wrapped : Precedence → Tree → Next → Precedence → Bool → Bool
 place_wrapped v t n lowest takes_it = not (takes v lowest) || (takes_it || refuses t n)
 
 abbrev mutual
   -- the lowest operator on the bare left edge, Unambiguous where none is there
-  pub low : Tree → Level
+  pub low : Tree → Precedence
   low (infixed x k y) = lower (level k) (if left_wrapped k x (bad x (class_of k)) then lev.Unambiguous else low x)
   low (postfixed x k) = lower (level (postfix_op k)) (if left_wrapped (postfix_op k) x (bad x (class_of (postfix_op k))) then lev.Unambiguous else low x)
   low _ = lev.Unambiguous
@@ -184,7 +184,7 @@ abbrev mutual
 
 -- ---- whether a node is put in parentheses
 
-abbrev pub place_asks : Level → Context → Tree → Bool
+abbrev pub place_asks : Precedence → Context → Tree → Bool
 place_asks v c t = place_wrapped v t c.next (low t) (bad t c.next) || misplaced c t
 
 abbrev pub left_asks : Infix → Context → Tree → Bool

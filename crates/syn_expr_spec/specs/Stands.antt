@@ -15,8 +15,8 @@ use Rattle.syn_lower_spec.specs.Pat.{MemberTree, a_name, an_index, index_of, dot
 use Rattle.syn_expr_spec.specs.declared.kinds.Limits.TheVariants as limits
 use Rattle.syn_expr_spec.specs.declared.kinds.Infix.{Infix}
 use Rattle.syn_expr_spec.specs.declared.kinds.Infix.TheVariants as inf
-use Rattle.syn_expr_spec.specs.declared.kinds.Level.{Level}
-use Rattle.syn_expr_spec.specs.declared.kinds.Level.TheVariants as lev
+use Rattle.syn_expr_spec.specs.declared.kinds.Precedence.{Precedence}
+use Rattle.syn_expr_spec.specs.declared.kinds.Precedence.TheVariants as lev
 use Rattle.syn_expr_spec.specs.declared.kinds.Place.{Place}
 use Rattle.syn_expr_spec.specs.Place.{plain, before_block, at, above, takes}
 use Rattle.syn_expr_spec.specs.Path.{is_word_alone, is_try_alone, goes_on_path}
@@ -118,16 +118,16 @@ unfoldable pub closes : Place → Tree → List Tok → Bool
 closes p x n = not ((carries x || is_cast x) && goes_behind (rests p x) n)
 
 -- `...` is no operator; it is refused where a range could go on
-abbrev pub refuses_dots : Level → List Tok → Bool
+abbrev pub refuses_dots : Precedence → List Tok → Bool
 refuses_dots v n = above lev.Range v && three_dots_at n
 
-abbrev pub is_jump_or_let : Level → Bool
+abbrev pub is_jump_or_let : Precedence → Bool
 is_jump_or_let lev.Jump = true
 is_jump_or_let lev.Let = true
 is_jump_or_let _ = false
 
 -- `<-` is no operator; it is refused after a whole expression and after the value of `let`
-abbrev pub refuses_arrow : Level → List Tok → Bool
+abbrev pub refuses_arrow : Precedence → List Tok → Bool
 refuses_arrow v n = is_jump_or_let v && left_arrow_at n
 
 -- what fills a place of its own ends where it must: the operators that the place takes are all taken; but a range ends

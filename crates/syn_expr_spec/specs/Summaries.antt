@@ -2,8 +2,8 @@
 use Rattle.std.specs.Prelude.{◌≡◌, ℕ, ◌+◌, ◌*◌, ◌≤◌, Bool, true, false, ◌&&◌, ◌||◌, not, nat_eq, if◌then◌else◌, List, [], ◌∷◌, ◌++◌, length, None}
 use Rattle.std.specs.Int.{bit_at}
 use Rattle.syn_expr_spec.specs.declared.kinds.Infix.{Infix}
-use Rattle.syn_expr_spec.specs.declared.kinds.Level.{Level}
-use Rattle.syn_expr_spec.specs.declared.kinds.Level.TheVariants as lev
+use Rattle.syn_expr_spec.specs.declared.kinds.Precedence.{Precedence}
+use Rattle.syn_expr_spec.specs.declared.kinds.Precedence.TheVariants as lev
 use Rattle.syn_expr_spec.specs.declared.next.Next.{Next}
 use Rattle.syn_expr_spec.specs.declared.next.Next.TheVariants as next
 use Rattle.syn_expr_spec.specs.declared.next.Context.{Context}
@@ -78,7 +78,7 @@ misplaced_by c sort.Let = is_statement c.edge
 misplaced_by c sort.Struct = c.condition
 misplaced_by c sort.Other = false
 
-abbrev pub wrapped_by : Level → Summary → Next → Bool
+abbrev pub wrapped_by : Precedence → Summary → Next → Bool
 wrapped_by v x n = not (takes v x.low) || has x.ends n
 
 abbrev pub left_wrapped_by : Infix → Summary → Bool
@@ -87,7 +87,7 @@ left_wrapped_by k x = x.range || ((x.comparison && is_comparison k) || has x.end
 abbrev pub base_wrapped_by : Trailer → Summary → Bool
 base_wrapped_by k x = not (x.base && not (is_call k && x.named_field)) || has x.ends (next_of k)
 
-abbrev pub place_by : Level → Context → Summary → Bool
+abbrev pub place_by : Precedence → Context → Summary → Bool
 place_by v c x = wrapped_by v x c.next || misplaced_by c x.sort
 
 abbrev pub left_by : Infix → Context → Summary → Bool
@@ -102,7 +102,7 @@ prefix_by k c x = place_by (prefix_level k) c x || (is_bare_break k && x.labelle
 -- ---- summaries, by those of the operands
 
 -- what the owner of a place must not have after it; `wrapped`: the occupant is in parentheses
-abbrev pub end_by : Level → Summary → Next → Bool → Bool
+abbrev pub end_by : Precedence → Summary → Next → Bool → Bool
 end_by v x n wrapped = (takes_next v n && not (not wrapped && x.range)) || (trails n && (wrapped || x.carries))
 
 abbrev pub prefix_end_by : Prefix → Summary → Next → Bool
@@ -188,7 +188,7 @@ prefix_summary k x =
       sort = prefix_sort k;
     }
 
-abbrev pub left_low : Infix → Summary → Level
+abbrev pub left_low : Infix → Summary → Precedence
 left_low k x = lower (level k) (if left_wrapped_by k x then lev.Unambiguous else x.low)
 
 abbrev pub infix_summary : Infix → Summary → Summary → Summary
@@ -264,7 +264,7 @@ stack t = below t ++ summary_of t ∷ []
 -- ---- what is promised of summaries: they decide as the rule does, each in its own context, and fill-ins change none
 
 pub record SummariesAreRight : Type 0 where
-  pub at_place : (v : Level) (c : Context) (t : Tree) → place_by v c (summary_of t) ≡ place_asks v c t
+  pub at_place : (v : Precedence) (c : Context) (t : Tree) → place_by v c (summary_of t) ≡ place_asks v c t
   pub at_left : (k : Infix) (c : Context) (t : Tree) → left_by k (left_context k c) (summary_of t) ≡ left_asks k (left_context k c) t
   pub at_base : (k : Trailer) (c : Context) (t : Tree) → base_by k (base_context k c) (summary_of t) ≡ base_asks k (base_context k c) t
   pub at_prefix : (k : Prefix) (c : Context) (t : Tree) → prefix_by k c (summary_of t) ≡ prefix_asks k c t

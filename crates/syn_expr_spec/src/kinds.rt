@@ -95,9 +95,9 @@ pub enum Infix {
 }
 
 /// How tightly an expression binds, loosest first (Rust Reference, "Expression precedence").
-#[derive(Clone, Copy, Debug, PartialEq, Eq)]
-pub enum Level {
-    /// `return`, `break`, `yield` with a value, and closures.
+#[derive(Clone, Copy, Debug, PartialEq, Eq, PartialOrd)]
+pub enum Precedence {
+    /// `return`, `break`, `yield` with a value, and closures without an output.
     Jump,
     /// `=` and the compound assignments.
     Assign,
@@ -125,17 +125,22 @@ pub enum Level {
     Product,
     /// `as`
     Cast,
-    /// Prefix `*`, `!`, `-`, `&`.
+    /// Prefix `*`, `!`, `-`, `&`; and after an outer attribute what is `Unambiguous` otherwise.
     Prefix,
     /// Everything else.
     Unambiguous,
+}
+
+impl Precedence {
+    /// The loosest precedence.
+    pub const MIN: Precedence = Precedence::Jump;
 }
 
 /// Where an expression is.
 #[derive(Clone, Copy, Debug, PartialEq, Eq)]
 pub struct Place {
     /// Infix operators above this level belong to the expression.
-    pub level: Level,
+    pub level: Precedence,
     /// Before the block of an `if`, `while`, `match` or `for`, where a brace opens that block.
     pub condition: bool,
     /// At the head of a statement or of a match arm's body.

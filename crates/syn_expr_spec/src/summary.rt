@@ -1,6 +1,6 @@
 //! What a printer knows of a node before it prints, so that it looks at each node twice and no more.
 
-use crate::kinds::Level;
+use crate::kinds::Precedence;
 
 /// What a node is itself, as far as a place may not have it.
 #[derive(Clone, Copy, Debug, PartialEq, Eq)]
@@ -23,7 +23,7 @@ pub enum Sort {
 #[derive(Clone, Copy, Debug, PartialEq, Eq)]
 pub struct Summary {
     /// The lowest operator on its left edge, `Unambiguous` where there is none.
-    pub low: Level,
+    pub low: Precedence,
     /// The classes of tokens that it must not have after it: a bit for each, in the order of `Next`.
     pub ends: u32,
     /// It is an assignment, a binary operation, a cast or a range, and has no attributes.

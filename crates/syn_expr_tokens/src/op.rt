@@ -15,7 +15,7 @@ ghost use Rattle.syn_tokens.specs.View.{toks_of};
 ghost use Rattle.syn_expr_spec.specs.Place as place_spec;
 ghost use Rattle.syn_expr_spec.specs.Rule as rule_spec;
 
-use syn_expr_spec::kinds::{BinKind, Infix, Level, Limits, UnKind};
+use syn_expr_spec::kinds::{BinKind, Infix, Limits, Precedence, UnKind};
 use syn_lower_leaves::front::round_at;
 use syn_lower_leaves::leaf::lifetime_at;
 use syn_tokens::Spacing;
@@ -338,18 +338,18 @@ impl ToTokens for UnOp {
 }
 
 /// Whether `...` comes first where a range could go on: it is no operator, and is refused there.
-pub fn refuses_dots(input: &ParseBuffer<'_>, level: Level) -> bool
+pub fn refuses_dots(input: &ParseBuffer<'_>, level: Precedence) -> bool
     ensures { result ≡ stands_spec.refuses_dots level input.now.rest }
 {
-    above(Level::Range, level) && three_dots_at(input)
+    above(Precedence::Range, level) && three_dots_at(input)
 }
 
 /// Whether `<-` comes first after a whole expression or after the value of `let`: it is no operator, and is refused
 /// there.
-pub fn refuses_arrow(input: &ParseBuffer<'_>, level: Level) -> bool
+pub fn refuses_arrow(input: &ParseBuffer<'_>, level: Precedence) -> bool
     ensures { result ≡ stands_spec.refuses_arrow level input.now.rest }
 {
-    matches!(level, Level::Jump | Level::Let) && left_arrow_at(input)
+    matches!(level, Precedence::Jump | Precedence::Let) && left_arrow_at(input)
 }
 
 /// Whether brackets come first.
@@ -644,14 +644,14 @@ pub fn infix_at(input: &ParseBuffer<'_>) -> Option<(Infix, usize)>
 }
 
 /// The place of a level in their order, the loosest first.
-pub fn rank(level: Level) -> u8
+pub fn rank(level: Precedence) -> u8
     ensures { result ≡ place_spec.rank level }
 {
     level as u8
 }
 
 /// Whether a level binds tighter than another.
-pub fn above(level: Level, other: Level) -> bool
+pub fn above(level: Precedence, other: Precedence) -> bool
     ensures { result ≡ place_spec.above level other }
 {
     rank(level) > rank(other)
@@ -659,34 +659,34 @@ pub fn above(level: Level, other: Level) -> bool
 
 /// Whether an expression at a level takes an infix operator of another: those above it, and at `Assign` those of
 /// `Assign` too, which group to the right.
-pub fn takes(level: Level, operator: Level) -> bool
+pub fn takes(level: Precedence, operator: Precedence) -> bool
     ensures { result ≡ place_spec.takes level operator }
 {
-    above(operator, level) || matches!((level, operator), (Level::Assign, Level::Assign))
+    above(operator, level) || matches!((level, operator), (Precedence::Assign, Precedence::Assign))
 }
 
 /// The looser one of two levels.
-pub fn lower(first: Level, second: Level) -> Level
+pub fn lower(first: Precedence, second: Precedence) -> Precedence
     ensures { result ≡ rule_spec.lower first second }
 {
     if above(first, second) { second } else { first }
 }
 
 /// The level of a binary operator.
-pub fn binary_level(op: BinKind) -> Level
+pub fn binary_level(op: BinKind) -> Precedence
     ensures { result ≡ op_spec.binary_level op }
 {
     match op {
-        BinKind::Add | BinKind::Sub => Level::Sum,
-        BinKind::Mul | BinKind::Div | BinKind::Rem => Level::Product,
-        BinKind::And => Level::And,
-        BinKind::Or => Level::Or,
-        BinKind::BitXor => Level::BitXor,
-        BinKind::BitAnd => Level::BitAnd,
-        BinKind::BitOr => Level::BitOr,
-        BinKind::Shl | BinKind::Shr => Level::Shift,
+        BinKind::Add | BinKind::Sub => Precedence::Sum,
+        BinKind::Mul | BinKind::Div | BinKind::Rem => Precedence::Product,
+        BinKind::And => Precedence::And,
+        BinKind::Or => Precedence::Or,
+        BinKind::BitXor => Precedence::BitXor,
+        BinKind::BitAnd => Precedence::BitAnd,
+        BinKind::BitOr => Precedence::BitOr,
+        BinKind::Shl | BinKind::Shr => Precedence::Shift,
         BinKind::Eq | BinKind::Lt | BinKind::Le | BinKind::Ne | BinKind::Ge | BinKind::Gt =>
-            Level::Compare,
+            Precedence::Compare,
         BinKind::AddAssign
         | BinKind::SubAssign
         | BinKind::MulAssign
@@ -696,19 +696,19 @@ pub fn binary_level(op: BinKind) -> Level
         | BinKind::BitAndAssign
         | BinKind::BitOrAssign
         | BinKind::ShlAssign
-        | BinKind::ShrAssign => Level::Assign,
+        | BinKind::ShrAssign => Precedence::Assign,
     }
 }
 
 /// The level of an infix operator, which is that of its right operand's place too.
-pub fn level(op: Infix) -> Level
+pub fn level(op: Infix) -> Precedence
     ensures { result ≡ op_spec.level op }
 {
     match op {
         Infix::Binary(op) => binary_level(op),
-        Infix::Assign => Level::Assign,
-        Infix::Range(_) => Level::Range,
-        Infix::Cast => Level::Cast,
+        Infix::Assign => Precedence::Assign,
+        Infix::Range(_) => Precedence::Range,
+        Infix::Cast => Precedence::Cast,
     }
 }
 

@@ -24,7 +24,7 @@ use Rattle.syn_lower_spec.proofs.Parts.{macro_alike}
 use Rattle.syn_lower_spec.proofs.PatsBack.{attributes_back, closure_arg_back}
 use Rattle.syn_lower_spec.proofs.Weights.{some_is}
 use Rattle.syn_lower_spec.proofs.Whole.{parts_read_back}
-use Rattle.syn_expr_spec.specs.declared.kinds.Level.TheVariants as lev
+use Rattle.syn_expr_spec.specs.declared.kinds.Precedence.TheVariants as lev
 use Rattle.syn_expr_spec.specs.declared.next.Next.TheVariants as next
 use Rattle.syn_expr_spec.specs.declared.next.Context.{Context}
 use Rattle.syn_expr_spec.specs.Place.{plain}

@@ -25,8 +25,8 @@ use Rattle.syn_lower_spec.proofs.Weights.{some_is}
 use Rattle.syn_lower_spec.proofs.Whole.{parts_read_back}
 use Rattle.syn_expr_spec.specs.declared.kinds.Infix.{Infix}
 use Rattle.syn_expr_spec.specs.declared.kinds.Infix.TheVariants as inf
-use Rattle.syn_expr_spec.specs.declared.kinds.Level.{Level}
-use Rattle.syn_expr_spec.specs.declared.kinds.Level.TheVariants as lev
+use Rattle.syn_expr_spec.specs.declared.kinds.Precedence.{Precedence}
+use Rattle.syn_expr_spec.specs.declared.kinds.Precedence.TheVariants as lev
 use Rattle.syn_expr_spec.specs.declared.kinds.Limits.TheVariants as limits
 use Rattle.syn_expr_spec.specs.declared.kinds.Place.{Place}
 use Rattle.syn_expr_spec.specs.declared.kinds.UnKind.TheVariants as un
@@ -78,7 +78,7 @@ else_tests = true
 
 -- ---- `else` goes on with nothing
 
-else_quiet : (v : Level) (r : List Tok) → (goes_on v (els r) ≡ false) × (three_dots_at (els r) ≡ false) × (left_arrow_at (els r) ≡ false) × (trailer_at (els r) ≡ false)
+else_quiet : (v : Precedence) (r : List Tok) → (goes_on v (els r) ≡ false) × (three_dots_at (els r) ≡ false) × (left_arrow_at (els r) ≡ false) × (trailer_at (els r) ≡ false)
     × (dot_at (els r) || question_at (els r) ≡ false)
 unfolding else_tests
 else_quiet v r = (refl, refl, refl, refl, refl)
@@ -364,7 +364,7 @@ base_plain k (infixed x j y) h = absurd cc
 base_plain k (postfixed x j) h = absurd cc
 base_plain k _ h = (refl, refl)
 
-no_pound : (v : Level) (c : Context) (x : Tree) → Obeys v c x → is_attributed x ≡ false → is_operation x ≡ false → begins_pound x ≡ false
+no_pound : (v : Precedence) (c : Context) (x : Tree) → Obeys v c x → is_attributed x ≡ false → is_operation x ≡ false → begins_pound x ≡ false
 no_pound v c (attributed a ats x) h f g = absurd cc
 no_pound v c (infixed x k y) h f g = absurd cc
 no_pound v c (postfixed x k) h f g = absurd cc

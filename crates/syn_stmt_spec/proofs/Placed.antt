@@ -8,7 +8,7 @@ use Rattle.syn_tokens.specs.Front.{group_at}
 use Rattle.syn_lower_spec.specs.Mark.{word_at, brace_at, semi, sign_at}
 use Rattle.syn_lower_spec.specs.Pat.{an_index}
 use Rattle.syn_lower_spec.proofs.Ends.{sign_first}
-use Rattle.syn_expr_spec.specs.declared.kinds.Level.TheVariants as lev
+use Rattle.syn_expr_spec.specs.declared.kinds.Precedence.TheVariants as lev
 use Rattle.syn_expr_spec.specs.declared.kinds.Limits.TheVariants as limits
 use Rattle.syn_expr_spec.specs.declared.kinds.Place.{Place}
 use Rattle.syn_expr_spec.specs.declared.next.Next.TheVariants as next

@@ -6,7 +6,7 @@ use Rattle.syn_tokens.specs.Tok.{Tok}
 use Rattle.syn_lower_spec.specs.Tree.{AttributeTree}
 use Rattle.syn_lower_spec.specs.Mark.{semi}
 use Rattle.syn_lower_spec.specs.Part.{outer_attributes}
-use Rattle.syn_expr_spec.specs.declared.kinds.Level.TheVariants as lev
+use Rattle.syn_expr_spec.specs.declared.kinds.Precedence.TheVariants as lev
 use Rattle.syn_expr_spec.specs.declared.next.Context.{Context}
 use Rattle.syn_expr_spec.specs.Place.{plain}
 use Rattle.syn_expr_spec.specs.Next.{enclosed, in_statement}

@@ -7,8 +7,8 @@ use Rattle.syn_tokens.specs.Tok.{Tok}
 use Rattle.syn_lower_spec.specs.Tree.{AttributeTree}
 use Rattle.syn_lower_spec.specs.Mark.{semi}
 use Rattle.syn_lower_spec.specs.Part.{outer_attributes}
-use Rattle.syn_expr_spec.specs.declared.kinds.Level.{Level}
-use Rattle.syn_expr_spec.specs.declared.kinds.Level.TheVariants as lev
+use Rattle.syn_expr_spec.specs.declared.kinds.Precedence.{Precedence}
+use Rattle.syn_expr_spec.specs.declared.kinds.Precedence.TheVariants as lev
 use Rattle.syn_expr_spec.specs.declared.next.Next.{Next}
 use Rattle.syn_expr_spec.specs.declared.next.Next.TheVariants as next
 use Rattle.syn_expr_spec.specs.declared.next.Edge.TheVariants as edge
@@ -44,7 +44,7 @@ state true d n = record { condition = d; edge = edge.BelowStatement; next = n }
 state false d n = record { condition = d; edge = edge.Statement; next = n }
 
 -- What obeys the rules of a statement is led by none of these.
-pub leads_free : (t : Tree) (v : Level) (b d : Bool) (n : Next) → Obeys v (state b d n) t → free b t ≡ true
+pub leads_free : (t : Tree) (v : Precedence) (b d : Bool) (n : Next) → Obeys v (state b d n) t → free b t ≡ true
 leads_free (leaf (e.mac y)) v true d n h = ap not h
 leads_free (leaf (e.mac y)) v false d n h = refl
 leads_free (leaf k) v b d n h = refl
@@ -67,7 +67,7 @@ leads_free (paren m t) v b d n h = refl
 leads_free (frame k ks) v b d n h = refl
 
 -- Led by none of these, what obeys the rules of an arm's body obeys those of a statement.
-stated : (t : Tree) (v : Level) (b d : Bool) (n : Next) → Obeys v (arm b d n) t → free b t ≡ true → Obeys v (state b d n) t
+stated : (t : Tree) (v : Precedence) (b d : Bool) (n : Next) → Obeys v (arm b d n) t → free b t ≡ true → Obeys v (state b d n) t
 stated (leaf (e.mac y)) v true d n h f = not-true _ f
 stated (leaf (e.mac y)) v false d n h f = refl
 stated (leaf k) v true d n h f = h

@@ -11,8 +11,8 @@ use Rattle.syn_lower_spec.specs.PatFits.{attributes_outer, member_fits}
 use Rattle.syn_lower_spec.specs.PatOwn.{attributes_own}
 use Rattle.syn_expr_spec.specs.declared.kinds.Infix.{Infix}
 use Rattle.syn_expr_spec.specs.declared.kinds.Infix.TheVariants as inf
-use Rattle.syn_expr_spec.specs.declared.kinds.Level.{Level}
-use Rattle.syn_expr_spec.specs.declared.kinds.Level.TheVariants as lev
+use Rattle.syn_expr_spec.specs.declared.kinds.Precedence.{Precedence}
+use Rattle.syn_expr_spec.specs.declared.kinds.Precedence.TheVariants as lev
 use Rattle.syn_expr_spec.specs.declared.next.Next.{Next}
 use Rattle.syn_expr_spec.specs.declared.next.Next.TheVariants as next
 use Rattle.syn_expr_spec.specs.declared.next.Edge.TheVariants as edge
@@ -76,7 +76,7 @@ postfix_loose : (k : Postfix) (m n : Next) → Ended m n → postfix_refuses k m
 postfix_loose k m n (inl q) h = ap (postfix_refuses k) q ∙ h
 postfix_loose k m n (inr q) h = ap (postfix_refuses k) q ∙ postfix_ended k
 
-fits_loose : (v : Level) (t : Tree) (m n : Next) → Ended m n → Fits v t m → Fits v t n
+fits_loose : (v : Precedence) (t : Tree) (m n : Next) → Ended m n → Fits v t m → Fits v t n
 fits_loose v t m n (inl q) f = subst (Fits v t) (sym q) f
 fits_loose v t m n (inr q) f = subst (Fits v t) (sym q) (record { no_operator = refl; no_trailer = refl })
 
@@ -114,7 +114,7 @@ prefix_ended (e.range_to op) c n h = h
 prefix_ended (e.unary op) c n h = h
 prefix_ended _ c n h = h
 
-relax : (t : Tree) (v : Level) (c : Context) (n : Next) → Ended c.next n → Obeys v c t → Obeys v (loose n) t
+relax : (t : Tree) (v : Precedence) (c : Context) (n : Next) → Ended c.next n → Obeys v c t → Obeys v (loose n) t
 relax (leaf k) v c n d i = or_from _ _ (leaf_loose k c.next n d (or_parts _ _ i).0) (leaf_placed n k)
 relax (paren m t) v c n d i = i
 relax (attributed a more t) v c n d i = (i.0, relax t v (attributed_context c) n d i.1)
@@ -144,7 +144,7 @@ label_clear (postfixed x k) = label_clear x
 label_clear (tail b k ks) = label_clear b
 label_clear _ = refl
 
-fits_clear : (v : Level) (t : Tree) (n : Next) → Fits v t n → Fits v (clear t) n
+fits_clear : (v : Precedence) (t : Tree) (n : Next) → Fits v t n → Fits v (clear t) n
 fits_clear v t n f = record {
   no_operator = ap (λ b. takes_next v n && not b) (range_clear t) ∙ f.no_operator;
   no_trailer = rw (carries_clear t, cast_clear t) f.no_trailer;
@@ -157,7 +157,7 @@ left_clear k t f = record {
 }
 
 mutual
-  cleared : (t : Tree) (v : Level) (c : Context) → Obeys v c t → Obeys v c (clear t)
+  cleared : (t : Tree) (v : Precedence) (c : Context) → Obeys v c t → Obeys v c (clear t)
   cleared (leaf k) v c i = i
   cleared (paren m t) v c i = (cleared t lev.Jump enclosed i.0, fits_clear lev.Jump t next.End i.1)
   cleared (attributed a more t) v c i = (operation_clear t ∙ i.0, cleared t v (attributed_context c) i.1)
@@ -241,7 +241,7 @@ operand_plainly q k c t false true g h p f = plain_kept k t h
 operand_plainly q k c t false false g h p f = f h g
 
 mutual
-  plainly : (t : Tree) (v : Level) (c : Context) → Formed t → Obeys v c t → plainly_attributed (clear t) ≡ true
+  plainly : (t : Tree) (v : Precedence) (c : Context) → Formed t → Obeys v c t → plainly_attributed (clear t) ≡ true
   plainly (leaf k) v c f i = refl
   plainly (paren m t) v c f i = plainly t lev.Jump enclosed f i.0
   plainly (attributed a more t) v c f i = and_from _ _ (ap not (operation_clear t ∙ i.0)) (plainly t v (attributed_context c) f.2 i.1)
