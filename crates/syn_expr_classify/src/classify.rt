@@ -306,7 +306,7 @@ pub(crate) fn node_brace<E: HasFrames>(expr: &E, before: bool) -> bool
     }
 }
 
-/// A type of expressions of which it is known what is last in them.
+/// A type of expressions that can be asked what stands last in them.
 pub trait HasFrames: HasShape {
     /// The condition of an `if`, of a loop and of a `match` has its braces after it, and a closure with an output has its
     /// body alone; the attributes of a node are one list.

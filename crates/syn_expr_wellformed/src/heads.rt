@@ -17,7 +17,7 @@ use syn_lower::punctuated::Punctuated;
 use syn_lower::ty::ReturnType;
 use syn_tokens::token::{Comma, Move};
 
-/// A type of expressions of which it is known whether the patterns in them are read back.
+/// A type of expressions that can be tested for whether the patterns in them are read back.
 pub trait HasPatFits: HasShape {
     /// Whether a pattern is read back where there may be alternatives, and no guard is in it.
     fn pat_fits(pat: &Self::Pat) -> bool

@@ -24,7 +24,7 @@ use syn_expr_fixup::summary::HasArms;
 use syn_lower_leaves::punctuated::Punctuated;
 use syn_tokens::token::{Comma, DotDot, Else};
 
-/// A type of expressions of which it is known whether they are read back.
+/// A type of expressions that can be tested for whether they are read back.
 pub trait HasWell: HasPatFits + HasArms {
     ghost use Rattle.std.specs.Prelude.{◌≡◌, true};
     ghost use Rattle.syn_expr_wellformed.specs.Walk.{is_whole};
