@@ -79,6 +79,25 @@ left_level k o v b g t f h = let a = same_class k o v b g f h in let c = same_co
 pub left_place : (k o : Infix) (v : Precedence) (b g : Bool) (c : Context) → Fits k v b g → operator_at v b g ≡ Some o → left_context o c ≡ left_context k c
 left_place k o v b g c f h = let a = same_class k o v b g f h in rw a refl
 
+-- the operator that was chosen, by itself
+
+abbrev the_one : Infix → Option Infix → Infix
+the_one d None = d
+the_one d (Some o) = o
+
+same_one : (k o : Infix) (r : Option Infix) → r ≡ Some k → r ≡ Some o → o ≡ k
+same_one k o r h g = ap (the_one k) (sym g ∙ h)
+
+pub chosen_level : (k o : Infix) (v : Precedence) (b g : Bool) (t : Tree) → operator_at v b g ≡ Some k → operator_at v b g ≡ Some o
+    → left_wrapped_by o (summary_of t) ≡ left_wrapped k t (bad t (class_of k))
+chosen_level k o v b g t h is = ap (λ q. left_wrapped_by q (summary_of t)) (same_one k o (operator_at v b g) h is) ∙ left_same k (summary_of t) t (summarized t)
+
+pub chosen_context : (k o : Infix) (v : Precedence) (b g : Bool) (c : Context) → operator_at v b g ≡ Some k → operator_at v b g ≡ Some o → left_context o c ≡ left_context k c
+chosen_context k o v b g c h is = ap (λ q. left_context q c) (same_one k o (operator_at v b g) h is)
+
+pub none_chosen : (k : Infix) (v : Precedence) (b g : Bool) → operator_at v b g ≡ Some k → operator_at v b g ≡ None → ⊥
+none_chosen k v b g h is = subst (λ r. IsLike r k) (sym h ∙ is) (refl, refl)
+
 pub base_level : (k : Trailer) (t : Tree) → base_wrapped_by k (summary_of t) ≡ base_wrapped k t (bad t (next_of k))
 base_level k t = base_same k (summary_of t) t (summarized t)
 
@@ -155,4 +174,4 @@ pub parenthesized_by : (c : Context) (t : Tree)
     → (misplaced_by c (summary_of t).sort || ((is_block_next c.next || is_brace_next c.next) && has (summary_of t).ends c.next)) ≡ parenthesized c t
 parenthesized_by c t = let h = summarized t in rw (h.misplaced_is c, ended c.next (has (summary_of t).ends c.next) (refuses t c.next) (bad t c.next) (h.ends_is c.next) (unended c.next t)) refl
 
-pub ruleset operands = (left_level, left_place, none_fits, base_level, place_level, parenthesized_by)
+pub ruleset operands = (left_level, left_place, none_fits, chosen_level, chosen_context, none_chosen, base_level, place_level, parenthesized_by)

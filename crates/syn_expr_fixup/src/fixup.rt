@@ -1,6 +1,6 @@
 //! Where an expression is printed: what decides about its parentheses, but the expression itself.
 
-ghost use Rattle.std.specs.Prelude.{◌≡◌, false, if◌then◌else◌};
+ghost use Rattle.std.specs.Prelude.{◌≡◌, false, if◌then◌else◌, Some, None};
 ghost use Rattle.syn_expr_spec.specs.Next as spec;
 ghost use Rattle.syn_expr_spec.specs.Next.{base_context, class_of, is_half_open, prefix_context, left_context, right_context};
 ghost use Rattle.syn_expr_spec.specs.Rule.{bad, base_wrapped, left_wrapped, low, place_wrapped};
@@ -173,7 +173,9 @@ impl FixupContext {
 
     /// What decides about a left operand of an operator with this precedence: `Unambiguous` where it is left bare for its
     /// level, else `Jump`, and the place of the operand. Two flags say whether the operator's first token can begin an
-    /// expression (`-`) and generic arguments (`<`). With `Unambiguous`: the base of an index.
+    /// expression (`-`) and generic arguments (`<`). With a level that no infix operator has (`Unambiguous`, `Prefix`, `Let`,
+    /// `Jump`): the base of an index. Of flags that no operator of the level has, those of one of its operators count:
+    /// of the first flag in a comparison, a shift, a sum or a product, of the second in an assignment, else of neither.
     ///
     /// `(a + b) * c` needs its parentheses; `a * b + c` none.
     /// `next_operator_can_begin_expr`: `(return) - 1` needs its parentheses; `return + 1` none.
@@ -191,8 +193,16 @@ impl FixupContext {
         ensures place { (k : Infix) → Fits k precedence next_operator_can_begin_expr next_operator_can_begin_generics
             → result.1.context ≡ left_context k self.context }
         ensures bound { result.1.level ≡ precedence }
-        ensures base { precedence ≡ lev.Unambiguous → result.0 ≡ level_if (base_wrapped e.index (E.tree expr.now) (bad (E.tree expr.now) next.Bracket)) }
-        ensures based { precedence ≡ lev.Unambiguous → result.1.context ≡ base_context e.index self.context }
+        // Of flags that no operator of the level has, it is as with those of this one.
+        ensures chosen { (k : Infix) → operator_at precedence next_operator_can_begin_expr next_operator_can_begin_generics ≡ Some k
+            → result.0 ≡ level_if (left_wrapped k (E.tree expr.now) (bad (E.tree expr.now) (class_of k))) }
+        ensures chosen_place { (k : Infix) → operator_at precedence next_operator_can_begin_expr next_operator_can_begin_generics ≡ Some k
+            → result.1.context ≡ left_context k self.context }
+        // No infix operator has the level.
+        ensures base { operator_at precedence next_operator_can_begin_expr next_operator_can_begin_generics ≡ None
+            → result.0 ≡ level_if (base_wrapped e.index (E.tree expr.now) (bad (E.tree expr.now) next.Bracket)) }
+        ensures based { operator_at precedence next_operator_can_begin_expr next_operator_can_begin_generics ≡ None
+            → result.1.context ≡ base_context e.index self.context }
     {
         let summary = summary_of(expr);
         match operator_by(
