@@ -1,6 +1,6 @@
 //! How tightly expressions bind (Rust Reference, "Expression precedence").
 
-ghost use Rattle.std.specs.Prelude.{◌≡◌, if◌then◌else◌, Some};
+ghost use Rattle.std.specs.Prelude.{◌≡◌, ◌≤◌, if◌then◌else◌, Some};
 ghost use Rattle.std.specs.Ordering.{nat_cmp};
 ghost use Rattle.syn_expr.specs.Levels.{behind, has_outer, kind_level, tree_level};
 ghost use Rattle.syn_expr_core.specs.View.{tree_of};
@@ -93,4 +93,9 @@ fn level_in<E: HasNode + HasKind>(expr: &E) -> Precedence
 /// Of two levels the one that binds tighter is the greater (Rust Reference, "Expression precedence").
 pub fn levels_are_in_order()
     ensures { (a b : Precedence) → ⟦<Precedence as PartialOrd>⟧.partial_cmp a b ≡ Some (nat_cmp (rank a) (rank b)) }
+{}
+
+/// No level is below `Precedence::MIN`, in the order of `levels_are_in_order`.
+pub fn none_is_below_min()
+    ensures { (v : Precedence) → rank Precedence.MIN ≤ rank v }
 {}
