@@ -2,7 +2,6 @@
 
 ghost use Rattle.std.specs.Prelude.{◌≡◌, ◌++◌, ◌*◌, ◌-◌, ◌^◌, ◌≤◌, true, min, string_bytes, IfErr, IfOk, OnOk};
 ghost use Rattle.syn_expr_core.specs.View.{tree_of};
-ghost use Rattle.syn_expr_fixup.specs.Visited.{visited};
 ghost use Rattle.syn_expr.specs.Promises.{Puts, StandsBack, StandsWithPairs, IsOwn, IsMinimal, IsTextOf, PrintedAs};
 ghost use Rattle.syn_expr_spec.specs.Next.{enclosed};
 ghost use Rattle.syn_expr_spec.specs.Printed as positions;
@@ -52,16 +51,15 @@ pub fn print_expr(expr: &Expr, tokens: &mut TokenStream, fixup: FixupContext) ->
 }
 
 /// The tokens that `print_expr` puts at the end, and a count of visits of nodes: one where the ends of a node are summarized, and
-/// one where it is printed. The count is at most twice the number of nodes; for a well-formed tree it is at least that number.
-/// Guards in patterns where there may be none aren't visited. A count that reaches the greatest `u64` stays there.
+/// one where it is printed. The count is at least the number of nodes, and at most twice that number. Guards in patterns where there
+/// may be none are counted too, although they aren't printed. A count that reaches the greatest `u64` stays there.
 ///
 /// Memory may run out (`OutOfMemory`).
 pub fn print_counted(alloc: Global, expr: &Expr, fixup: FixupContext) -> Result<(TokenStream, u64)>
     ensures ok { IfOk result (λ r. r.0 ≡ own_tokens (printed fixup.context (tree_of expr.now))) }
     ensures promised { IfOk result (λ r. (s : positions.Position) → fixup.context ≡ context_of s → PrintedAs s (tree_of expr.now) r.0) }
-    ensures least { IfOk result (λ r. is_well_formed (tree_of expr.now) ≡ true → min (size (tree_of expr.now)) (2 ^ 64 - 1) ≤ r.1) }
+    ensures least { IfOk result (λ r. min (size (tree_of expr.now)) (2 ^ 64 - 1) ≤ r.1) }
     ensures most { IfOk result (λ r. r.1 ≤ min (2 * size (tree_of expr.now)) (2 ^ 64 - 1)) }
-    ensures visits { IfOk result (λ r. min (visited (tree_of expr.now)) (2 ^ 64 - 1) ≤ r.1) }
     ensures err { IfErr result (λ e. e.kind ≡ ErrorKind.OutOfMemory) }
 {
     let mut tokens = TokenStream::new(alloc);

@@ -7,6 +7,7 @@ pub mod Matches
 pub mod ReadPat
 pub mod PrintsPat
 pub mod Guards
+pub mod StrayGuards
 pub mod Replaced
 pub mod Parts
 pub mod Spelled

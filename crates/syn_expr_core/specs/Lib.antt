@@ -2,3 +2,4 @@ pub mod Node
 pub mod View
 pub mod Guarded
 pub mod Refused
+pub mod Strays

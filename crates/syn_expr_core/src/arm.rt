@@ -9,6 +9,8 @@ ghost use Rattle.syn_lower.specs.View.{mapped};
 use crate::control::Arm;
 use crate::expr::Expr;
 use crate::pat::{Pat, PatGuard};
+use crate::strays::{find_guards, in_arms, in_list};
+use std::alloc::{AllocError, Global};
 use syn_expr_fixup::summary::HasArms;
 use syn_expr_print::put::frame::{ArmHead, HasArmHead};
 use syn_tokens::token::If;
@@ -76,7 +78,7 @@ impl HasArmHead for Arm {
     }
 }
 
-#[tactic(auto, using(crate::proofs::TreeOf::members))]
+#[tactic(auto, using(crate::proofs::TreeOf::members, crate::proofs::StrayGuards::nodes))]
 impl HasArms for Expr {
     fn guard(arm: &Arm) -> Option<&Expr> {
         arm.pat.arm_guard()
@@ -84,5 +86,16 @@ impl HasArms for Expr {
 
     fn body(arm: &Arm) -> &Expr {
         &arm.body
+    }
+
+    fn strays(&self, alloc: Global) -> Result<Vec<&Expr>, AllocError> {
+        let found = Vec::new(alloc);
+        match self {
+            Expr::Closure(x) => in_list(&x.inputs, found),
+            Expr::ForLoop(x) => find_guards(&x.pat, found),
+            Expr::Let(x) => find_guards(&x.pat, found),
+            Expr::Match(x) => in_arms(&x.arms, found),
+            _ => Ok(found),
+        }
     }
 }

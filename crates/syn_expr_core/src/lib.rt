@@ -19,6 +19,7 @@ mod print;
 mod print_pat;
 mod read_pat;
 mod single;
+mod strays;
 
 pub use held::HeldExpr;
 pub use pat::{

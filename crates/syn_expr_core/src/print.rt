@@ -3,7 +3,6 @@
 
 ghost use Rattle.std.specs.Prelude.{◌≡◌, ◌++◌, ◌*◌, ◌-◌, ◌^◌, ◌≤◌, min, IfErr, IfOk, OnOk, false};
 ghost use Rattle.syn_expr_core.specs.View.{tree_of, pat_of, arm_of};
-ghost use Rattle.syn_expr_fixup.specs.Visited.{visited};
 ghost use Rattle.syn_expr_ast.specs.Printed.{whole};
 ghost use Rattle.syn_tokens.specs.Input.{IsFront};
 ghost use Rattle.syn_expr_ast.specs.Node.{before_of, framed, frame_guards, frame_of, prefix_guards, prefix_of, operand_children, operands_of};
@@ -11,7 +10,7 @@ ghost use Rattle.syn_expr_ast.specs.Pats.{strays};
 ghost use Rattle.syn_expr_spec.specs.Next.{enclosed};
 ghost use Rattle.syn_expr_spec.specs.Stands.{is_range_prefix};
 ghost use Rattle.syn_expr_spec.specs.Tree as e;
-ghost use Rattle.syn_expr_spec.specs.Tree.{attributed_with};
+ghost use Rattle.syn_expr_spec.specs.Tree.{attributed_with, size};
 
 use crate::closure::ExprClosure;
 use crate::control::{Arm, ExprForLoop, ExprLet, ExprMatch};
@@ -43,15 +42,15 @@ impl HasPrinter for Expr {}
 
 /// Prints an expression where it is, after the tokens that are there: with the parentheses that it needs in this context
 /// and inside (Rust Reference, "Expression precedence"); in a statement a `let` and a macro with braces get redundant
-/// ones, and so may an operation after attributes. It answers how often a node was visited, at most twice each; a count that
-/// reaches the greatest `u64` stays there.
+/// ones, and so may an operation after attributes. It answers how often a node was visited: each at least once, and at most
+/// twice, also in guards that aren't printed. A count that reaches the greatest `u64` stays there.
 ///
 /// It is refused only because memory ran out; a part of the tokens may then come after the old ones.
 pub fn print_counted(expr: &Expr, tokens: &mut TokenStream, context: Context) -> Result<u64>
     ensures text { OnOk result (tokens.new ≡ tokens.old ++ whole context (tree_of expr.now)) }
     ensures front { IsFront tokens.old tokens.new }
-    ensures least { IfOk result (λ n. min (visited (tree_of expr.now)) (2 ^ 64 - 1) ≤ n) }
-    ensures most { IfOk result (λ n. n ≤ min (2 * visited (tree_of expr.now)) (2 ^ 64 - 1)) }
+    ensures least { IfOk result (λ n. min (size (tree_of expr.now)) (2 ^ 64 - 1) ≤ n) }
+    ensures most { IfOk result (λ n. n ≤ min (2 * size (tree_of expr.now)) (2 ^ 64 - 1)) }
     ensures err { IfErr result (λ e. e.kind ≡ ErrorKind.OutOfMemory) }
 {
     Ok(print_in(tokens, expr, context)?)

@@ -9,12 +9,12 @@ use Rattle.syn_lower_leaves.specs.View.{values, last_of}
 use Rattle.syn_lower_spec.specs.Pat.{PatTree, guarded}
 use Rattle.syn_expr_spec.specs.declared.summary.Summary.{Summary}
 use Rattle.syn_expr_spec.specs.Tree as e
-use Rattle.syn_expr_spec.specs.Tree.{Tree, Children, child}
+use Rattle.syn_expr_spec.specs.Tree.{Tree, Children, child, size}
 use Rattle.syn_expr_spec.specs.Summaries.{stack, children_below}
 use Rattle.syn_expr_ast.specs.Pats.{ArmView, strays, guard_children, arm_ending, arm_children, arms}
 use Rattle.syn_expr_ast.specs.View.{FieldView, elements, fields, option_child}
-use Rattle.syn_expr_fixup.specs.Below.{last_guard, guard_by, backwards, total, field_below, field_visited, option_below, option_visited, arm_below, arm_visited}
-use Rattle.syn_expr_fixup.specs.Visited.{visited, children_visited}
+use Rattle.syn_expr_fixup.specs.Below.{last_guard, guard_by, backwards, total, field_below, field_size, option_below, option_size, arm_below, arm_size}
+use Rattle.syn_expr_fixup.specs.Strays.{children_left}
 
 -- ---- lists, from the end
 
@@ -76,8 +76,8 @@ pub some_below : {A P : Type 0} (f : A → List Summary) (p : Punctuated A P) (b
 some_below f p b h =
     ap (backwards f) (values_some p b h) ∙ backwards_append f (map (λ q. q.0) p.inner.items) (b.value ∷ []) ∙ ap (λ l. f b.value ++ l) (backwards_map f (λ q. q.0) p.inner.items)
 
-pub some_visited : {A P : Type 0} (f : A → ℕ) (p : Punctuated A P) (b : Box A Global) → p.last ≡ Some b → total f (values p) ≡ f b.value + total (λ q. f q.0) p.inner.items
-some_visited f p b h =
+pub some_size : {A P : Type 0} (f : A → ℕ) (p : Punctuated A P) (b : Box A Global) → p.last ≡ Some b → total f (values p) ≡ f b.value + total (λ q. f q.0) p.inner.items
+some_size f p b h =
     let a = ap (total f) (values_some p b h) in
     let d = total_append f (map (λ q. q.0) p.inner.items) (b.value ∷ []) in
     let m = total_map f (λ q. q.0) p.inner.items in
@@ -86,8 +86,8 @@ some_visited f p b h =
 pub none_below : {A P : Type 0} (f : A → List Summary) (p : Punctuated A P) → p.last ≡ None → backwards f (values p) ≡ backwards (λ q. f q.0) p.inner.items
 none_below f p h = ap (backwards f) (values_none p h) ∙ backwards_map f (λ q. q.0) p.inner.items
 
-pub none_visited : {A P : Type 0} (f : A → ℕ) (p : Punctuated A P) → p.last ≡ None → total f (values p) ≡ total (λ q. f q.0) p.inner.items
-none_visited f p h = ap (total f) (values_none p h) ∙ total_map f (λ q. q.0) p.inner.items
+pub none_size : {A P : Type 0} (f : A → ℕ) (p : Punctuated A P) → p.last ≡ None → total f (values p) ≡ total (λ q. f q.0) p.inner.items
+none_size f p h = ap (total f) (values_none p h) ∙ total_map f (λ q. q.0) p.inner.items
 
 -- ---- the operands of each list
 
@@ -95,15 +95,15 @@ elements_summarized : (ts : List Tree) (b : Bool) → children_below (elements t
 elements_summarized [] b = refl
 elements_summarized (t ∷ ts) b = ap (λ l. l ++ stack t) (elements_summarized ts b)
 
-elements_seen : (ts : List Tree) (b : Bool) → children_visited (elements ts b) ≡ total visited ts
+elements_seen : (ts : List Tree) (b : Bool) → children_left (elements ts b) ≡ total size ts
 elements_seen [] b = refl
-elements_seen (t ∷ ts) b = ap (λ n. visited t + n) (elements_seen ts b)
+elements_seen (t ∷ ts) b = ap (λ n. size t + n) (elements_seen ts b)
 
 pub elements_below : {E : Type 0} (f : E → Tree) (xs : List E) (b : Bool) → children_below (elements (map f xs) b) ≡ backwards (λ x. stack (f x)) xs
 elements_below f xs b = elements_summarized (map f xs) b ∙ backwards_map stack f xs
 
-pub elements_visited : {E : Type 0} (f : E → Tree) (xs : List E) (b : Bool) → children_visited (elements (map f xs) b) ≡ total (λ x. visited (f x)) xs
-elements_visited f xs b = elements_seen (map f xs) b ∙ total_map visited f xs
+pub elements_size : {E : Type 0} (f : E → Tree) (xs : List E) (b : Bool) → children_left (elements (map f xs) b) ≡ total (λ x. size (f x)) xs
+elements_size f xs b = elements_seen (map f xs) b ∙ total_map size f xs
 
 pub silent_if : {A : Type 0} (b : Bool) (x y : A) → (if not b then x else y) ≡ (if b then y else x)
 silent_if true x y = refl
@@ -113,7 +113,7 @@ fields_summarized : (xs : List FieldView) (b : Bool) (rest : Children) → child
 fields_summarized [] b rest = sym (append-nil (children_below rest))
 fields_summarized (x ∷ xs) b rest = rw (fields_summarized xs b rest, silent_if x.colon [] (stack x.value)) (append_assoc (children_below rest) (backwards field_below xs) (field_below x))
 
-fields_seen : (xs : List FieldView) (b : Bool) (rest : Children) → children_visited (fields xs b rest) ≡ total field_visited xs + children_visited rest
+fields_seen : (xs : List FieldView) (b : Bool) (rest : Children) → children_left (fields xs b rest) ≡ total field_size xs + children_left rest
 fields_seen [] b rest = omega arith
 fields_seen (x ∷ xs) b rest = omega (arith, fields_seen xs b rest)
 
@@ -121,19 +121,19 @@ pub rest_below : (d : Bool) (o : Option Tree) → children_below (option_child (
 rest_below d None = refl
 rest_below d (Some t) = refl
 
-rest_visited : (d : Bool) (o : Option Tree) → children_visited (option_child (e.rest d) o) ≡ option_visited o
-rest_visited d None = refl
-rest_visited d (Some t) = omega arith
+rest_size : (d : Bool) (o : Option Tree) → children_left (option_child (e.rest d) o) ≡ option_size o
+rest_size d None = refl
+rest_size d (Some t) = omega arith
 
 pub fields_below : {E : Type 0} (f : E → FieldView) (xs : List E) (b d : Bool) (o : Option Tree) → children_below (fields (map f xs) b (option_child (e.rest d) o)) ≡ option_below o ++ backwards (λ x. field_below (f x)) xs
 fields_below f xs b d o =
     fields_summarized (map f xs) b (option_child (e.rest d) o) ∙ ap (λ l. l ++ backwards field_below (map f xs)) (rest_below d o) ∙ ap (λ l. option_below o ++ l) (backwards_map field_below f xs)
 
-pub fields_visited : {E : Type 0} (f : E → FieldView) (xs : List E) (b d : Bool) (o : Option Tree) → children_visited (fields (map f xs) b (option_child (e.rest d) o)) ≡ option_visited o + total (λ x. field_visited (f x)) xs
-fields_visited f xs b d o =
+pub fields_size : {E : Type 0} (f : E → FieldView) (xs : List E) (b d : Bool) (o : Option Tree) → children_left (fields (map f xs) b (option_child (e.rest d) o)) ≡ option_size o + total (λ x. field_size (f x)) xs
+fields_size f xs b d o =
     let h = fields_seen (map f xs) b (option_child (e.rest d) o) in
-    let r = rest_visited d o in
-    let m = total_map field_visited f xs in
+    let r = rest_size d o in
+    let m = total_map field_size f xs in
     omega arith
 
 -- ---- arms
@@ -142,7 +142,7 @@ pub strays_none : (gs : List Tree) (ks : Children) → children_below (strays gs
 strays_none [] ks = refl
 strays_none (g ∷ gs) ks = append-nil (children_below (strays gs ks)) ∙ strays_none gs ks
 
-strays_unseen : (gs : List Tree) (ks : Children) → children_visited (strays gs ks) ≡ children_visited ks
+strays_unseen : (gs : List Tree) (ks : Children) → children_left (strays gs ks) ≡ children_left ks
 strays_unseen [] ks = refl
 strays_unseen (g ∷ gs) ks = strays_unseen gs ks
 
@@ -150,7 +150,7 @@ guard_last : (ats : _) (p : PatTree) (g : Tree) (gs : List Tree) (ks : Children)
 guard_last ats p g [] ks = refl
 guard_last ats p g (h ∷ gs) ks = append-nil (children_below (guard_children (e.guard ats p) h gs ks)) ∙ guard_last ats p h gs ks
 
-guard_seen : (ats : _) (p : PatTree) (g : Tree) (gs : List Tree) (ks : Children) → children_visited (guard_children (e.guard ats p) g gs ks) ≡ visited (last_guard g gs) + children_visited ks
+guard_seen : (ats : _) (p : PatTree) (g : Tree) (gs : List Tree) (ks : Children) → children_left (guard_children (e.guard ats p) g gs ks) ≡ size (last_guard g gs) + children_left ks
 guard_seen ats p g [] ks = refl
 guard_seen ats p g (h ∷ gs) ks = guard_seen ats p h gs ks
 
@@ -158,12 +158,12 @@ abbrev ArmBelow : ArmView → Children → PatTree → List Tree → Type 0
 ArmBelow x more p gs = children_below (arm_children x p gs more) ≡ children_below more ++ (stack x.body ++ option_below (guard_by p gs))
 
 abbrev ArmSeen : ArmView → Children → PatTree → List Tree → Type 0
-ArmSeen x more p gs = children_visited (arm_children x p gs more) ≡ (visited x.body + option_visited (guard_by p gs)) + children_visited more
+ArmSeen x more p gs = children_left (arm_children x p gs more) ≡ (size x.body + option_size (guard_by p gs)) + children_left more
 
 unguarded_below : (x : ArmView) (more : Children) (p : PatTree) (gs : List Tree) → children_below (strays gs (child (e.arm x.attrs p) (arm_ending x.comma) x.body more)) ≡ children_below more ++ (stack x.body ++ [])
 unguarded_below x more p gs = strays_none gs _ ∙ ap (λ l. children_below more ++ l) (sym (append-nil (stack x.body)))
 
-unguarded_seen : (x : ArmView) (more : Children) (p : PatTree) (gs : List Tree) → children_visited (strays gs (child (e.arm x.attrs p) (arm_ending x.comma) x.body more)) ≡ (visited x.body + 0) + children_visited more
+unguarded_seen : (x : ArmView) (more : Children) (p : PatTree) (gs : List Tree) → children_left (strays gs (child (e.arm x.attrs p) (arm_ending x.comma) x.body more)) ≡ (size x.body + 0) + children_left more
 unguarded_seen x more p gs = let h = strays_unseen gs (child (e.arm x.attrs p) (arm_ending x.comma) x.body more) in omega arith
 
 arm_summarized : (x : ArmView) (more : Children) (p : PatTree) (gs : List Tree) → ArmBelow x more p gs
@@ -181,14 +181,14 @@ arms_summarized : (xs : List ArmView) → children_below (arms xs) ≡ backwards
 arms_summarized [] = refl
 arms_summarized (x ∷ xs) = arm_summarized x (arms xs) x.pat.tree x.pat.guards ∙ ap (λ l. l ++ arm_below x) (arms_summarized xs)
 
-arms_seen : (xs : List ArmView) → children_visited (arms xs) ≡ total arm_visited xs
+arms_seen : (xs : List ArmView) → children_left (arms xs) ≡ total arm_size xs
 arms_seen [] = refl
-arms_seen (x ∷ xs) = arm_seen x (arms xs) x.pat.tree x.pat.guards ∙ ap (λ n. arm_visited x + n) (arms_seen xs)
+arms_seen (x ∷ xs) = arm_seen x (arms xs) x.pat.tree x.pat.guards ∙ ap (λ n. arm_size x + n) (arms_seen xs)
 
 pub arms_below : {A : Type 0} (f : A → ArmView) (xs : List A) → children_below (arms (map f xs)) ≡ backwards (λ x. arm_below (f x)) xs
 arms_below f xs = arms_summarized (map f xs) ∙ backwards_map arm_below f xs
 
-pub arms_visited : {A : Type 0} (f : A → ArmView) (xs : List A) → children_visited (arms (map f xs)) ≡ total (λ x. arm_visited (f x)) xs
-arms_visited f xs = arms_seen (map f xs) ∙ total_map arm_visited f xs
+pub arms_size : {A : Type 0} (f : A → ArmView) (xs : List A) → children_left (arms (map f xs)) ≡ total (λ x. arm_size (f x)) xs
+arms_size f xs = arms_seen (map f xs) ∙ total_map arm_size f xs
 
-pub ruleset lists = (elements_below, elements_visited, fields_below, fields_visited, arms_below, arms_visited)
+pub ruleset lists = (elements_below, elements_size, fields_below, fields_size, arms_below, arms_size)

@@ -1,12 +1,12 @@
 -- The summary of a node, and what its operands make of a pass over it.
-use Rattle.std.proofs.Common.{◌≡◌, ◌+◌, Bool, true, false, if◌then◌else◌, List, ◌++◌, refl, sym, ap, ◌∙◌, arith}
+use Rattle.std.proofs.Common.{◌≡◌, ◌+◌, Bool, true, false, if◌then◌else◌, List, [], ◌++◌, refl, sym, ap, ◌∙◌, arith}
 use Rattle.std.proofs.lemmas.List.{append-nil}
 use Rattle.syn_expr_spec.specs.declared.kinds.Infix.{Infix}
 use Rattle.syn_expr_spec.specs.declared.summary.Summary.{Summary}
 use Rattle.syn_expr_spec.specs.declared.summary.Sort.{Sort}
 use Rattle.syn_expr_spec.specs.declared.summary.Sort.TheVariants as sort
 use Rattle.syn_expr_spec.specs.Tree as e
-use Rattle.syn_expr_spec.specs.Tree.{Tree, Children, Leaf, Prefix, Postfix, Trailer, Frame, leaf, paren, attributed, prefixed, infixed, postfixed, tail, frame, none, child}
+use Rattle.syn_expr_spec.specs.Tree.{Tree, Children, Leaf, Prefix, Postfix, Trailer, Frame, leaf, paren, attributed, prefixed, infixed, postfixed, tail, frame, none, child, size, children_size}
 use Rattle.syn_expr_spec.specs.Summaries.{summary_of, stack, below, children_below, closed_summary, attributed_summary, attributed_sort, leaf_summary, prefix_summary, infix_summary, postfix_summary}
 use Rattle.syn_expr_ast.specs.Label.{leaf_kind, prefix_kind, postfix_kind, trailer_kind, frame_kind, tail_summary, frame_summary, kind_at}
 use Rattle.syn_expr_ast.specs.declared.label.NodeKind.TheVariants as node
@@ -18,8 +18,8 @@ use Rattle.syn_expr_ast.specs.declared.label.FrameKind.{FrameKind}
 use Rattle.syn_lower_spec.specs.Form.{is_nil}
 use Rattle.syn_lower_spec.specs.Tree.{AttributeTree}
 use Rattle.syn_expr_ast.specs.Node.{attributes_at, without_strays, no_trees, operands_at, based_by}
-use Rattle.syn_expr_fixup.specs.Below.{plain_summary, summarized_behind, AreFirst, operands_below, operands_visited}
-use Rattle.syn_expr_fixup.specs.Visited.{visited, children_visited}
+use Rattle.syn_expr_fixup.specs.Below.{plain_summary, summarized_behind, AreFirst, operands_below, operands_size, total}
+use Rattle.syn_expr_fixup.specs.Strays.{trees_in, strays_in, strays_at, children_left}
 
 -- ---- attributes
 
@@ -136,17 +136,27 @@ strays_below : (ks : Children) → children_below (without_strays ks) ≡ childr
 strays_below none = refl
 strays_below (child k c t ks) = elim k as (λ k. children_below (without_strays (child k c t ks)) ≡ children_below (child k c t ks)) [ e.stray ↦ strays_below ks ∙ sym (append-nil (children_below ks)) | _ ↦ refl ]
 
-strays_visited : (ks : Children) → children_visited (without_strays ks) ≡ children_visited ks
-strays_visited none = refl
-strays_visited (child k c t ks) = elim k as (λ k. children_visited (without_strays (child k c t ks)) ≡ children_visited (child k c t ks)) [ e.stray ↦ strays_visited ks | _ ↦ refl ]
+strays_left : (ks : Children) → children_left (without_strays ks) ≡ children_left ks
+strays_left none = refl
+strays_left (child k c t ks) = elim k as (λ k. children_left (without_strays (child k c t ks)) ≡ children_left (child k c t ks)) [ e.stray ↦ strays_left ks | _ ↦ refl ]
+
+-- the strays and the others are all
+strays_apart : (ks : Children) → total size (strays_in ks) + children_left ks ≡ children_size ks
+strays_apart none = refl
+strays_apart (child e.stray c t ks) = omega (arith, strays_apart ks)
+strays_apart (child _ c t ks) = omega (arith, strays_apart ks)
+
+trees_size : (ks : Children) → total size (trees_in ks) ≡ children_size ks
+trees_size none = refl
+trees_size (child k c t ks) = ap (λ n. size t + n) (trees_size ks)
 
 pub based_below : (b : Tree) (ks : Children) → operands_below (based_by b ks) ≡ children_below ks ++ stack b
 based_below b none = refl
 based_below b (child k c t ks) = refl
 
-pub based_visited : (b : Tree) (ks : Children) → operands_visited (based_by b ks) ≡ visited b + children_visited ks
-based_visited b none = omega arith
-based_visited b (child k c t ks) = refl
+pub based_size : (b : Tree) (ks : Children) → operands_size (based_by b ks) ≡ size b + children_left ks
+based_size b none = omega arith
+based_size b (child k c t ks) = refl
 
 pub below_is : (t : Tree) → operands_below (operands_at t) ≡ below t
 below_is (leaf l) = refl
@@ -158,15 +168,15 @@ below_is (postfixed x l) = refl
 below_is (tail b l ks) = based_below b ks
 below_is (frame l ks) = strays_below ks
 
-pub visited_is : (t : Tree) → 1 + operands_visited (operands_at t) ≡ visited t
-visited_is (leaf l) = refl
-visited_is (paren b t) = refl
-visited_is (attributed a more t) = visited_is t
-visited_is (prefixed l gs t) = refl
-visited_is (infixed x op y) = refl
-visited_is (postfixed x l) = refl
-visited_is (tail b l ks) = ap (λ n. 1 + n) (based_visited b ks)
-visited_is (frame l ks) = ap (λ n. 1 + n) (strays_visited ks)
+pub size_is : (t : Tree) → 1 + (total size (strays_at t) + operands_size (operands_at t)) ≡ size t
+size_is (leaf l) = omega arith
+size_is (paren b t) = omega arith
+size_is (attributed a more t) = size_is t
+size_is (prefixed l gs t) = ap (λ n. 1 + (n + size t)) (trees_size gs)
+size_is (infixed x op y) = omega arith
+size_is (postfixed x l) = omega arith
+size_is (tail b l ks) = omega (arith, based_size b ks, strays_apart ks)
+size_is (frame l ks) = omega (arith, strays_left ks, strays_apart ks)
 
 pub leaf_operands : (t : Tree) (k : LeafKind) → kind_at t ≡ node.Leaf k → operands_at t ≡ no_trees
 leaf_operands (leaf l) k h = refl
@@ -178,8 +188,18 @@ leaf_operands (postfixed x l) k h = absurd cc
 leaf_operands (tail b l ks) k h = absurd cc
 leaf_operands (frame l ks) k h = absurd cc
 
-pub ruleset based = (based_below, based_visited)
+pub leaf_strays : (t : Tree) (k : LeafKind) → kind_at t ≡ node.Leaf k → strays_at t ≡ []
+leaf_strays (leaf l) k h = refl
+leaf_strays (attributed a more t) k h = leaf_strays t k h
+leaf_strays (paren b t) k h = absurd cc
+leaf_strays (prefixed l gs t) k h = absurd cc
+leaf_strays (infixed x op y) k h = absurd cc
+leaf_strays (postfixed x l) k h = absurd cc
+leaf_strays (tail b l ks) k h = absurd cc
+leaf_strays (frame l ks) k h = absurd cc
+
+pub ruleset based = (based_below, based_size)
 
 pub ruleset leaves = (leaf_operands)
 
-pub ruleset nodes = (behind_is, below_is, visited_is)
+pub ruleset nodes = (behind_is, below_is, size_is)

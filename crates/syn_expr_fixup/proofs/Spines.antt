@@ -4,13 +4,13 @@ use Rattle.std.proofs.Common.{◌≡◌, ◌+◌, List, [], ◌∷◌, ◌++◌,
 use Rattle.std.proofs.lemmas.List.{append-nil}
 use denote.Ref.{Bor}
 use Rattle.syn_expr_spec.specs.declared.summary.Summary.{Summary}
-use Rattle.syn_expr_spec.specs.Tree.{Tree, Children, none, child}
+use Rattle.syn_expr_spec.specs.Tree.{Tree, Children, none, child, size}
 use Rattle.syn_expr_spec.specs.Summaries.{summary_of, stack, below, children_below}
 use Rattle.syn_expr_ast.specs.Node.{OperandTrees, no_trees, one_tree, two_trees, based, framed, based_by, first_of, operands_at}
-use Rattle.syn_expr_fixup.specs.Below.{AreFirst, operands_below, operands_visited}
-use Rattle.syn_expr_fixup.specs.Spine.{IsSecond, Prefixes, above, behind_below, behind_visited}
-use Rattle.syn_expr_fixup.specs.Visited.{visited, children_visited}
-use Rattle.syn_expr_fixup.proofs.Nodes.{below_is, visited_is}
+use Rattle.syn_expr_fixup.specs.Below.{AreFirst, operands_below, operands_size, total}
+use Rattle.syn_expr_fixup.specs.Spine.{IsSecond, Prefixes, above, behind_below, behind_size}
+use Rattle.syn_expr_fixup.specs.Strays.{strays_at, children_left}
+use Rattle.syn_expr_fixup.proofs.Nodes.{below_is, size_is}
 
 -- what holds where the last step is not refused
 pub on_map : {U X : Type 0} {A B : Type 0} (r : Result U X) → OnOk r A → (A → B) → OnOk r B
@@ -26,12 +26,12 @@ first_below (two_trees x y) f h = let e : x ≡ f = cc in ap (λ t. stack y ++ s
 first_below (based b ks) f h = let e : b ≡ f = cc in ap (λ t. operands_below (based t ks)) e
 first_below (framed ks) f h = absurd cc
 
-pub first_visited : (o : OperandTrees) (f : Tree) → first_of o ≡ Some f → operands_visited o ≡ visited f + behind_visited o
-first_visited no_trees f h = absurd cc
-first_visited (one_tree t) f h = let e : t ≡ f = cc in omega (arith, ap visited e)
-first_visited (two_trees x y) f h = let e : x ≡ f = cc in omega (arith, ap visited e)
-first_visited (based b ks) f h = let e : b ≡ f = cc in omega (arith, ap visited e)
-first_visited (framed ks) f h = absurd cc
+pub first_size : (o : OperandTrees) (f : Tree) → first_of o ≡ Some f → operands_size o ≡ size f + behind_size o
+first_size no_trees f h = absurd cc
+first_size (one_tree t) f h = let e : t ≡ f = cc in omega (arith, ap size e)
+first_size (two_trees x y) f h = let e : x ≡ f = cc in omega (arith, ap size e)
+first_size (based b ks) f h = let e : b ≡ f = cc in omega (arith, ap size e)
+first_size (framed ks) f h = absurd cc
 
 pub are_first : (o : OperandTrees) (f : Tree) (m n : Summary) → first_of o ≡ Some f → m ≡ summary_of f → IsSecond o n → AreFirst o m n
 are_first no_trees f m n h a b = refl
@@ -46,7 +46,7 @@ pub based_behind : (b : Tree) (ks : Children) → behind_below (based_by b ks) �
 based_behind b none = refl
 based_behind b (child k c t ks) = refl
 
-pub based_left : (b : Tree) (ks : Children) → behind_visited (based_by b ks) ≡ children_visited ks
+pub based_left : (b : Tree) (ks : Children) → behind_size (based_by b ks) ≡ children_left ks
 based_left b none = refl
 based_left b (child k c t ks) = refl
 
@@ -135,9 +135,9 @@ module _ {E : Type 0} (see : E → Tree) where
       ∙ h
 
 -- what is left to visit
-pub down_visited : (t f : Tree) → first_of (operands_at t) ≡ Some f → visited t ≡ 1 + (behind_visited (operands_at t) + visited f)
-down_visited t f i = omega (arith, visited_is t, first_visited (operands_at t) f i)
+pub down_size : (t f : Tree) → first_of (operands_at t) ≡ Some f → size t ≡ 1 + (total size (strays_at t) + (behind_size (operands_at t) + size f))
+down_size t f i = omega (arith, size_is t, first_size (operands_at t) f i)
 
-pub ruleset spines = (first_below, first_visited, are_first, down_visited)
+pub ruleset spines = (first_below, first_size, are_first, down_size)
 
 pub ruleset behind = (based_behind, based_left)

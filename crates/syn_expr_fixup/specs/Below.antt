@@ -1,7 +1,7 @@
 -- What an arm of a `match` holds beside its pattern.
 use Rattle.std.specs.Prelude.{List, [], ◌∷◌, Option, Some, None, ◌≡◌, ℕ, ◌+◌, if◌then◌else◌, ◌++◌}
 use Rattle.syn_lower_spec.specs.Pat.{PatTree, guarded}
-use Rattle.syn_expr_spec.specs.Tree.{Tree}
+use Rattle.syn_expr_spec.specs.Tree.{Tree, size}
 use Rattle.syn_expr_ast.specs.Pats.{ArmView}
 use Rattle.syn_lower_spec.specs.Tree.{AttributeTree}
 use Rattle.syn_expr_spec.specs.declared.summary.Summary.{Summary}
@@ -10,7 +10,7 @@ use Rattle.syn_expr_spec.specs.Summaries.{summary_of, stack, children_below, att
 use Rattle.syn_lower_spec.specs.Form.{is_nil}
 use Rattle.syn_expr_ast.specs.Node.{OperandTrees, no_trees, one_tree, two_trees, based, framed}
 use Rattle.syn_expr_ast.specs.View.{FieldView}
-use Rattle.syn_expr_fixup.specs.Visited.{visited, children_visited}
+use Rattle.syn_expr_fixup.specs.Strays.{children_left}
 
 -- the last of the guards g and gs
 abbrev pub last_guard : Tree → List Tree → Tree
@@ -54,12 +54,12 @@ operands_below (two_trees x y) = stack y ++ stack x
 operands_below (based b ks) = children_below ks ++ stack b
 operands_below (framed ks) = children_below ks
 
-abbrev pub operands_visited : OperandTrees → ℕ
-operands_visited no_trees = 0
-operands_visited (one_tree t) = visited t
-operands_visited (two_trees x y) = visited x + visited y
-operands_visited (based b ks) = visited b + children_visited ks
-operands_visited (framed ks) = children_visited ks
+abbrev pub operands_size : OperandTrees → ℕ
+operands_size no_trees = 0
+operands_size (one_tree t) = size t
+operands_size (two_trees x y) = size x + size y
+operands_size (based b ks) = size b + children_left ks
+operands_size (framed ks) = children_left ks
 
 -- ---- lists of operands: the last is summarized first
 
@@ -75,19 +75,19 @@ total f (x ∷ xs) = f x + total f xs
 abbrev pub field_below : FieldView → List Summary
 field_below x = if x.colon then stack x.value else []
 
-abbrev pub field_visited : FieldView → ℕ
-field_visited x = visited x.value
+abbrev pub field_size : FieldView → ℕ
+field_size x = size x.value
 
 abbrev pub option_below : Option Tree → List Summary
 option_below None = []
 option_below (Some t) = stack t
 
-abbrev pub option_visited : Option Tree → ℕ
-option_visited None = 0
-option_visited (Some t) = visited t
+abbrev pub option_size : Option Tree → ℕ
+option_size None = 0
+option_size (Some t) = size t
 
 abbrev pub arm_below : ArmView → List Summary
 arm_below x = stack x.body ++ option_below (guard_at x)
 
-abbrev pub arm_visited : ArmView → ℕ
-arm_visited x = visited x.body + option_visited (guard_at x)
+abbrev pub arm_size : ArmView → ℕ
+arm_size x = size x.body + option_size (guard_at x)

@@ -1,5 +1,5 @@
 pub mod Below
-pub mod Visited
+pub mod Strays
 pub mod Spine
 pub mod Fixup
 pub mod Operator

@@ -2,10 +2,10 @@
 use Rattle.std.specs.Prelude.{◌≡◌, ℕ, List, [], ◌∷◌, ◌++◌, Some}
 use denote.Ref.{Bor}
 use Rattle.syn_expr_spec.specs.declared.summary.Summary.{Summary}
-use Rattle.syn_expr_spec.specs.Tree.{Tree}
+use Rattle.syn_expr_spec.specs.Tree.{Tree, size}
 use Rattle.syn_expr_spec.specs.Summaries.{summary_of, stack, children_below}
 use Rattle.syn_expr_ast.specs.Node.{OperandTrees, two_trees, based, first_of, operands_at}
-use Rattle.syn_expr_fixup.specs.Visited.{visited, children_visited}
+use Rattle.syn_expr_fixup.specs.Strays.{children_left}
 
 -- ---- the operands of a node but its first one
 
@@ -14,10 +14,10 @@ behind_below (two_trees x y) = stack y
 behind_below (based b ks) = children_below ks
 behind_below _ = []
 
-abbrev pub behind_visited : OperandTrees → ℕ
-behind_visited (two_trees x y) = visited y
-behind_visited (based b ks) = children_visited ks
-behind_visited _ = 0
+abbrev pub behind_size : OperandTrees → ℕ
+behind_size (two_trees x y) = size y
+behind_size (based b ks) = children_left ks
+behind_size _ = 0
 
 -- it is the summary of the second operand, where there is one
 abbrev pub IsSecond : OperandTrees → Summary → Type 0

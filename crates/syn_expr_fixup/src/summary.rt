@@ -1,17 +1,17 @@
 //! The summary of a node, by its kind, its operands' summaries and the attributes before it; and the pass over an expression
 //! that makes them all.
 
-ghost use Rattle.std.specs.Prelude.{◌≡◌, ◌+◌, ◌-◌, ◌^◌, ◌&&◌, min, not, if◌then◌else◌, ◌++◌, ◌∷◌, IfOk, OnOk, [], false};
+ghost use Rattle.std.specs.Prelude.{◌≡◌, ◌+◌, ◌-◌, ◌^◌, ◌&&◌, min, not, if◌then◌else◌, ◌++◌, ◌∷◌, IfOk, OnOk, [], false, map};
 ghost use Rattle.syn_expr_spec.specs.Summaries as spec;
-ghost use Rattle.syn_expr_spec.specs.Tree.{Leaf, Prefix, Postfix, Trailer, Frame, Tree};
+ghost use Rattle.syn_expr_spec.specs.Tree.{Leaf, Prefix, Postfix, Trailer, Frame, Tree, size};
 ghost use Rattle.syn_expr_spec.specs.declared.kinds.Precedence.TheVariants as lev;
 ghost use Rattle.syn_expr_ast.specs.Label.{leaf_kind, prefix_kind, postfix_kind, trailer_kind, frame_kind, tail_summary, frame_summary, kind_at};
-ghost use Rattle.syn_expr_fixup.specs.Below.{guard_at, AreFirst, operands_below, operands_visited, backwards, total, field_below, field_visited, option_below, option_visited, arm_below, arm_visited, plain_summary, summarized_behind};
+ghost use Rattle.syn_expr_fixup.specs.Below.{guard_at, AreFirst, operands_below, operands_size, backwards, total, field_below, field_size, option_below, option_size, arm_below, arm_size, plain_summary, summarized_behind};
 ghost use Rattle.syn_lower_leaves.specs.View.{mapped, values};
 ghost use Rattle.syn_expr_ast.specs.Node.{operands_of, operands_at, before_of};
 ghost use Rattle.syn_expr_spec.specs.Summaries.{summary_of, stack, closed_summary};
-ghost use Rattle.syn_expr_fixup.specs.Visited.{visited};
-ghost use Rattle.syn_expr_fixup.specs.Spine.{IsSecond, Prefixes, above, behind_below, behind_visited};
+ghost use Rattle.syn_expr_fixup.specs.Strays.{strays_at};
+ghost use Rattle.syn_expr_fixup.specs.Spine.{IsSecond, Prefixes, above, behind_below, behind_size};
 ghost use Rattle.syn_expr_ast.specs.View.{boxed, field_value_of};
 ghost use Rattle.syn_expr_ast.specs.declared.label.NodeKind.TheVariants as node;
 ghost use Rattle.syn_expr_spec.specs.declared.summary.Sort.TheVariants as sort;
@@ -19,7 +19,7 @@ ghost use Rattle.syn_expr_spec.specs.declared.summary.Sort.TheVariants as sort;
 use crate::context::{
     base_wrapped_by, end_set, leaf_ends, left_wrapped_by, postfix_ends, takes_label,
 };
-use std::alloc::AllocError;
+use std::alloc::{AllocError, Global};
 use syn_expr_ast::label::{FrameKind, LeafKind, NodeKind, PostfixKind, PrefixKind, TrailerKind};
 use syn_expr_ast::node::{Attributes, HasKind, HasNode, Operands};
 use syn_expr_ast::structure::FieldValueOf;
@@ -214,6 +214,10 @@ pub trait HasArms: HasNode {
     /// The value of an arm.
     fn body(arm: &Self::Arm) -> &Self
         ensures { Self.tree result.now ≡ (Self.Arm.view arm.now).body };
+
+    /// The guards in the patterns of a node where there may be none, those in the patterns of its arms too. They aren't spelled.
+    fn strays(&self, alloc: Global) -> Result<Vec<&Self>, AllocError>
+        ensures { IfOk result (λ xs. map (λ x. Self.tree x.now) xs.items ≡ strays_at (Self.tree self.now)) };
 }
 
 /// The summaries of the first two operands, as far as that of their owner asks for them.
@@ -249,6 +253,27 @@ pub fn summary_of<E: HasNode + HasKind>(expr: &E) -> Summary
     behind(expr.attributes(), summary)
 }
 
+/// Visits the guards in the patterns of a node where there may be none. They aren't spelled, so their summaries are taken away
+/// again.
+#[cycle(collect)]
+fn collect_strays<E: HasArms + HasKind>(
+    summaries: &mut Vec<Summary>,
+    visits: &mut u64,
+    x: &E,
+) -> Result<(), AllocError>
+    ensures kept { OnOk result (summaries.new.items ≡ summaries.old.items) }
+    ensures counted { OnOk result (visits.new ≡ min (visits.old + total size (strays_at (E.tree x.now))) (2 ^ 64 - 1)) }
+{
+    let before = summaries.len();
+    let mut strays = x.strays(*summaries.allocator())?;
+    'strays: while let Some(stray) = strays.pop() {
+        collect(summaries, visits, stray)?;
+        summaries.truncate(before);
+    }
+    prove!(*visits <= u64::MAX);
+    Ok(())
+}
+
 /// Summarizes the values of a list that puncts follow, the last first.
 #[cycle(collect)]
 fn collect_pairs<E: HasArms + HasKind>(
@@ -257,7 +282,7 @@ fn collect_pairs<E: HasArms + HasKind>(
     mut pairs: &[(E, Comma)],
 ) -> Result<(), AllocError>
     ensures kept { OnOk result (summaries.new.items ≡ summaries.old.items ++ backwards (λ q. stack (E.tree q.0)) pairs.entry.now) }
-    ensures counted { OnOk result (visits.new ≡ min (visits.old + total (λ q. visited (E.tree q.0)) pairs.entry.now) (2 ^ 64 - 1)) }
+    ensures counted { OnOk result (visits.new ≡ min (visits.old + total (λ q. size (E.tree q.0)) pairs.entry.now) (2 ^ 64 - 1)) }
 {
     'pairs: while let [more @ .., (element, _)] = pairs {
         collect(summaries, visits, element)?;
@@ -275,7 +300,7 @@ fn collect_elements<E: HasArms + HasKind>(
     elements: &Punctuated<E, Comma>,
 ) -> Result<(), AllocError>
     ensures kept { OnOk result (summaries.new.items ≡ summaries.old.items ++ backwards (λ x. stack (E.tree x)) (values elements.now)) }
-    ensures counted { OnOk result (visits.new ≡ min (visits.old + total (λ x. visited (E.tree x)) (values elements.now)) (2 ^ 64 - 1)) }
+    ensures counted { OnOk result (visits.new ≡ min (visits.old + total (λ x. size (E.tree x)) (values elements.now)) (2 ^ 64 - 1)) }
 {
     match &elements.last {
         Some(element) => {
@@ -294,7 +319,7 @@ pub fn collect_field<E: HasArms + HasKind>(
     field: &FieldValueOf<E>,
 ) -> Result<(), AllocError>
     ensures kept { OnOk result (summaries.new.items ≡ summaries.old.items ++ field_below (field_value_of E.tree field.now)) }
-    ensures counted { OnOk result (visits.new ≡ min (visits.old + field_visited (field_value_of E.tree field.now)) (2 ^ 64 - 1)) }
+    ensures counted { OnOk result (visits.new ≡ min (visits.old + field_size (field_value_of E.tree field.now)) (2 ^ 64 - 1)) }
 {
     let before = summaries.len();
     collect(summaries, visits, &field.expr)?;
@@ -312,7 +337,7 @@ fn collect_field_pairs<E: HasArms + HasKind>(
     mut pairs: &[(FieldValueOf<E>, Comma)],
 ) -> Result<(), AllocError>
     ensures kept { OnOk result (summaries.new.items ≡ summaries.old.items ++ backwards (λ q. field_below (field_value_of E.tree q.0)) pairs.entry.now) }
-    ensures counted { OnOk result (visits.new ≡ min (visits.old + total (λ q. field_visited (field_value_of E.tree q.0)) pairs.entry.now) (2 ^ 64 - 1)) }
+    ensures counted { OnOk result (visits.new ≡ min (visits.old + total (λ q. field_size (field_value_of E.tree q.0)) pairs.entry.now) (2 ^ 64 - 1)) }
 {
     'pairs: while let [more @ .., (field, _)] = pairs {
         collect_field(summaries, visits, field)?;
@@ -330,7 +355,7 @@ fn collect_fields<E: HasArms + HasKind>(
     fields: &Punctuated<FieldValueOf<E>, Comma>,
 ) -> Result<(), AllocError>
     ensures kept { OnOk result (summaries.new.items ≡ summaries.old.items ++ backwards (λ x. field_below (field_value_of E.tree x)) (values fields.now)) }
-    ensures counted { OnOk result (visits.new ≡ min (visits.old + total (λ x. field_visited (field_value_of E.tree x)) (values fields.now)) (2 ^ 64 - 1)) }
+    ensures counted { OnOk result (visits.new ≡ min (visits.old + total (λ x. field_size (field_value_of E.tree x)) (values fields.now)) (2 ^ 64 - 1)) }
 {
     match &fields.last {
         Some(field) => {
@@ -349,7 +374,7 @@ fn collect_rest<E: HasArms + HasKind>(
     rest: &Option<Box<E>>,
 ) -> Result<(), AllocError>
     ensures kept { OnOk result (summaries.new.items ≡ summaries.old.items ++ option_below (boxed E.tree rest.now)) }
-    ensures counted { OnOk result (visits.new ≡ min (visits.old + option_visited (boxed E.tree rest.now)) (2 ^ 64 - 1)) }
+    ensures counted { OnOk result (visits.new ≡ min (visits.old + option_size (boxed E.tree rest.now)) (2 ^ 64 - 1)) }
 {
     match rest {
         Some(rest) => {
@@ -368,7 +393,7 @@ pub fn collect_arm<E: HasArms + HasKind>(
     arm: &E::Arm,
 ) -> Result<(), AllocError>
     ensures kept { OnOk result (summaries.new.items ≡ summaries.old.items ++ arm_below (E.Arm.view arm.now)) }
-    ensures counted { OnOk result (visits.new ≡ min (visits.old + arm_visited (E.Arm.view arm.now)) (2 ^ 64 - 1)) }
+    ensures counted { OnOk result (visits.new ≡ min (visits.old + arm_size (E.Arm.view arm.now)) (2 ^ 64 - 1)) }
 {
     collect(summaries, visits, E::body(arm))?;
     if let Some(guard) = E::guard(arm) {
@@ -385,7 +410,7 @@ fn collect_arms<E: HasArms + HasKind>(
     mut arms: &[E::Arm],
 ) -> Result<(), AllocError>
     ensures kept { OnOk result (summaries.new.items ≡ summaries.old.items ++ backwards (λ x. arm_below (E.Arm.view x)) arms.entry.now) }
-    ensures counted { OnOk result (visits.new ≡ min (visits.old + total (λ x. arm_visited (E.Arm.view x)) arms.entry.now) (2 ^ 64 - 1)) }
+    ensures counted { OnOk result (visits.new ≡ min (visits.old + total (λ x. arm_size (E.Arm.view x)) arms.entry.now) (2 ^ 64 - 1)) }
 {
     'arms: while let [more @ .., arm] = arms {
         collect_arm::<E>(summaries, visits, arm)?;
@@ -406,7 +431,7 @@ pub fn collect_operands<E: HasArms + HasKind>(
 ) -> Result<(Summary, Summary), AllocError>
     ensures first { IfOk result (λ p. AreFirst (operands_of E.tree E.Arm.view operands.entry) p.0 p.1) }
     ensures kept { OnOk result (summaries.new.items ≡ summaries.old.items ++ operands_below (operands_of E.tree E.Arm.view operands.entry)) }
-    ensures counted { OnOk result (visits.new ≡ min (visits.old + operands_visited (operands_of E.tree E.Arm.view operands.entry)) (2 ^ 64 - 1)) }
+    ensures counted { OnOk result (visits.new ≡ min (visits.old + operands_size (operands_of E.tree E.Arm.view operands.entry)) (2 ^ 64 - 1)) }
 {
     match operands {
         Operands::None => {
@@ -467,7 +492,7 @@ fn collect_behind<E: HasArms + HasKind>(
 ) -> Result<Summary, AllocError>
     ensures second { IfOk result (λ n. IsSecond (operands_of E.tree E.Arm.view operands.entry) n) }
     ensures kept { OnOk result (summaries.new.items ≡ summaries.old.items ++ behind_below (operands_of E.tree E.Arm.view operands.entry)) }
-    ensures counted { OnOk result (visits.new ≡ min (visits.old + behind_visited (operands_of E.tree E.Arm.view operands.entry)) (2 ^ 64 - 1)) }
+    ensures counted { OnOk result (visits.new ≡ min (visits.old + behind_size (operands_of E.tree E.Arm.view operands.entry)) (2 ^ 64 - 1)) }
 {
     match operands {
         Operands::Two(_, y) => collect::<E>(summaries, visits, y),
@@ -540,7 +565,7 @@ fn collect_leaf<E: HasArms + HasKind>(
     requires { kind_at (E.tree x.now) ≡ node.Leaf kind }
     ensures same { IfOk result (λ n. n ≡ summary_of (E.tree x.now)) }
     ensures kept { OnOk result (summaries.new.items ≡ summaries.old.items ++ stack (E.tree x.now)) }
-    ensures counted { OnOk result (visits.new ≡ min (visits.old + visited (E.tree x.now)) (2 ^ 64 - 1)) }
+    ensures counted { OnOk result (visits.new ≡ min (visits.old + size (E.tree x.now)) (2 ^ 64 - 1)) }
 {
     tick(visits);
     keep(
@@ -561,12 +586,13 @@ fn collect_spine<E: HasArms + HasKind>(
 ) -> Result<Summary, AllocError>
     ensures same { IfOk result (λ n. n ≡ summary_of (E.tree expr.now)) }
     ensures kept { OnOk result (summaries.new.items ≡ summaries.old.items ++ stack (E.tree expr.now)) }
-    ensures counted { OnOk result (visits.new ≡ min (visits.old + visited (E.tree expr.now)) (2 ^ 64 - 1)) }
+    ensures counted { OnOk result (visits.new ≡ min (visits.old + size (E.tree expr.now)) (2 ^ 64 - 1)) }
 {
     let mut spine = Vec::new(*summaries.allocator());
     let mut x = expr;
     'down: loop {
         tick(visits);
+        collect_strays(summaries, visits, x)?;
         let operands = x.operands();
         let Some(first) = operands.first() else {
             let (first, second) = collect_operands(summaries, visits, operands)?;
@@ -583,9 +609,9 @@ fn collect_spine<E: HasArms + HasKind>(
 }
 
 /// Summarizes a node and all below it, an operand on the right before one on the left, and the node after its operands; so a
-/// printer takes the summaries from the end, in the order in which it comes to the nodes. Operands that aren't spelled are
-/// visited, and have no summaries. It answers the summary of the node, and is refused only because memory ran out. Down first operands
-/// it goes by a loop: a sum of many terms, a chain of trailers and prefix operators take no stack.
+/// printer takes the summaries from the end, in the order in which it comes to the nodes. Operands and guards that aren't spelled
+/// are visited, and have no summaries. It answers the summary of the node, and is refused only because memory ran out. Down first
+/// operands it goes by a loop: a sum of many terms, a chain of trailers and prefix operators take no stack.
 #[cycle(collect)]
 pub fn collect<E: HasArms + HasKind>(
     summaries: &mut Vec<Summary>,
@@ -594,7 +620,7 @@ pub fn collect<E: HasArms + HasKind>(
 ) -> Result<Summary, AllocError>
     ensures same { IfOk result (λ n. n ≡ summary_of (E.tree expr.now)) }
     ensures kept { OnOk result (summaries.new.items ≡ summaries.old.items ++ stack (E.tree expr.now)) }
-    ensures counted { OnOk result (visits.new ≡ min (visits.old + visited (E.tree expr.now)) (2 ^ 64 - 1)) }
+    ensures counted { OnOk result (visits.new ≡ min (visits.old + size (E.tree expr.now)) (2 ^ 64 - 1)) }
 {
     match expr.kind() {
         NodeKind::Leaf(kind) => collect_leaf(summaries, visits, expr, kind),

@@ -1,7 +1,6 @@
 //! The printer of whole expressions: one pass summarizes the nodes, a second prints each by its summary.
 
 ghost use Rattle.std.specs.Prelude.{◌≡◌, ◌+◌, ◌++◌, ◌-◌, ◌*◌, ◌^◌, ◌≤◌, min, IfOk, OnOk, ◌∷◌, [], false};
-ghost use Rattle.syn_expr_fixup.specs.Visited.{visited};
 ghost use Rattle.syn_expr_ast.specs.Printed as printed;
 ghost use Rattle.syn_expr_print.specs.Printing.{EndsWith, spelled, core, spelled_in, IsBorrowed};
 ghost use Rattle.syn_expr_print.specs.Prints.{Callable, Prints};
@@ -49,8 +48,8 @@ pub(crate) fn print_with<
     requires prints { Prints E.tree (F.post bare.now) }
     ensures text { OnOk result (tokens.new ≡ tokens.old ++ printed.whole context (E.tree x.now)) }
     ensures front { IsFront tokens.old tokens.new }
-    ensures least { IfOk result (λ n. min (visited (E.tree x.now)) (2 ^ 64 - 1) ≤ n) }
-    ensures most { IfOk result (λ n. n ≤ min (2 * visited (E.tree x.now)) (2 ^ 64 - 1)) }
+    ensures least { IfOk result (λ n. min (size (E.tree x.now)) (2 ^ 64 - 1) ≤ n) }
+    ensures most { IfOk result (λ n. n ≤ min (2 * size (E.tree x.now)) (2 ^ 64 - 1)) }
 {
     let mut visits = 0;
     let mut left = Vec::new(tokens.alloc());
@@ -82,7 +81,8 @@ pub fn node<E: HasPrinter>(
 /// Prints an expression in its place, with the parentheses that it needs there and inside: those without which the tokens
 /// would be read as another tree, or not at all (Rust Reference, "Expression precedence"). In a statement a `let` and a macro
 /// with braces get some that are redundant, and so may an operation after attributes. It answers how often a node was
-/// visited, at most twice each: once to be summarized, once to be printed. A count that reaches the greatest `u64` stays there.
+/// visited: each once to be summarized, and those that are printed once to be printed. A count that reaches the greatest `u64`
+/// stays there.
 ///
 /// It is refused only because memory ran out; a part of the tokens may then follow what was there.
 #[tactic(auto, using(syn_tokens::proofs::Fronts::fronts))]
@@ -93,8 +93,8 @@ pub fn print_in<E: HasPrinter>(
 ) -> Result<u64, AllocError>
     ensures text { OnOk result (tokens.new ≡ tokens.old ++ printed.whole context (E.tree x.now)) }
     ensures front { IsFront tokens.old tokens.new }
-    ensures least { IfOk result (λ n. min (visited (E.tree x.now)) (2 ^ 64 - 1) ≤ n) }
-    ensures most { IfOk result (λ n. n ≤ min (2 * visited (E.tree x.now)) (2 ^ 64 - 1)) }
+    ensures least { IfOk result (λ n. min (size (E.tree x.now)) (2 ^ 64 - 1) ≤ n) }
+    ensures most { IfOk result (λ n. n ≤ min (2 * size (E.tree x.now)) (2 ^ 64 - 1)) }
 {
     print_with(&node::<E>, tokens, x, context)
 }

@@ -25,7 +25,7 @@ use Rattle.syn_expr_ast.specs.Node.{framed, based, based_by}
 use Rattle.syn_expr_ast.specs.Pats.{ArmView, strays, guard_children, arm_ending, arm_children, arms}
 use Rattle.syn_expr_ast.specs.View.{FieldView, ending_of, elements, fields, option_child, boxed, else_of, body_of}
 use Rattle.syn_expr_fixup.specs.Below.{last_guard, guard_by}
-use Rattle.syn_expr_fixup.proofs.Lists.{some_visited, none_visited}
+use Rattle.syn_expr_fixup.proofs.Lists.{some_size, none_size}
 use Rattle.syn_expr_wellformed.specs.Slots.{is_elements, is_single, is_counted, is_fields, is_conditions, is_loops, is_scrutinees, is_outputs}
 use Rattle.syn_expr_wellformed.specs.Walk.{operands_well, option_well, field_well, else_well, arm_pattern, arm_well}
 use Rattle.syn_expr_spec.proofs.Attributes.{outers_outer}
@@ -49,7 +49,7 @@ all-none f p h = all_values f p ∙ (ap (λ c. list_all (λ q. f q.0) p.inner.it
 pub all-not : {A P : Type 0} (f : A → Bool) (p : Punctuated A P) → list_all (λ q. f q.0) p.inner.items ≡ false → list_all f (values p) ≡ false
 all-not f p h = all_values f p ∙ ap (λ b. b && list_all f (last_of p.last)) h
 
-pub ruleset lists = (all-some, all-none, all-not, some_visited, none_visited)
+pub ruleset lists = (all-some, all-none, all-not, some_size, none_size)
 
 -- ---- elements
 

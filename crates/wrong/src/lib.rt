@@ -2,7 +2,7 @@
 //! place, which the contract alone has to refuse.
 #![tactic(auto)]
 
-ghost use Rattle.std.specs.Prelude.{◌≡◌, ◌≤◌, ◌-◌, ◌*◌, ◌^◌, IfOk, IfErr, min, true, vec_items};
+ghost use Rattle.std.specs.Prelude.{◌≡◌, ◌≤◌, ◌-◌, ◌*◌, ◌^◌, IfOk, IfErr, min, vec_items};
 ghost use Rattle.exprfmt_run.specs.Calls.{reader, writer};
 ghost use Rattle.exprfmt_run.specs.Run as program;
 ghost use Rattle.syn_expr.specs.Promises.{PrintedAs};
@@ -10,7 +10,6 @@ ghost use Rattle.syn_expr.specs.Texts.{position_of};
 ghost use Rattle.syn_expr_ast.specs.Printed.{ReadsExactly};
 ghost use Rattle.syn_expr_core.specs.Refused.{MayRefuse};
 ghost use Rattle.syn_expr_core.specs.View.{tree_of};
-ghost use Rattle.syn_expr_fixup.specs.Visited.{visited};
 ghost use Rattle.syn_expr_flatten.specs.Flat.{IsFlat};
 ghost use Rattle.syn_expr_spec.specs.Place.{plain};
 ghost use Rattle.syn_expr_spec.specs.Printed as positions;
@@ -55,9 +54,8 @@ pub fn flattened(expr: &mut Expr) -> Result<()>
 pub fn counted(alloc: Global, expr: &Expr, fixup: FixupContext) -> Result<(TokenStream, u64)>
     ensures ok { IfOk result (λ r. r.0 ≡ own_tokens (printed fixup.context (tree_of expr.now))) }
     ensures promised { IfOk result (λ r. (s : positions.Position) → fixup.context ≡ context_of s → PrintedAs s (tree_of expr.now) r.0) }
-    ensures least { IfOk result (λ r. spec.is_well_formed (tree_of expr.now) ≡ true → min (size (tree_of expr.now)) (2 ^ 64 - 1) ≤ r.1) }
+    ensures least { IfOk result (λ r. min (size (tree_of expr.now)) (2 ^ 64 - 1) ≤ r.1) }
     ensures most { IfOk result (λ r. r.1 ≤ min (2 * size (tree_of expr.now)) (2 ^ 64 - 1)) }
-    ensures visits { IfOk result (λ r. min (visited (tree_of expr.now)) (2 ^ 64 - 1) ≤ r.1) }
     ensures err { IfErr result (λ e. e.kind ≡ ErrorKind.OutOfMemory) }
 {
     print_counted(alloc, expr, fixup)

@@ -1,9 +1,9 @@
 -- A leaf has no operands.
 use Rattle.std.proofs.Common.{◌≡◌, ◌+◌, ◌-◌, ◌^◌, ◌∷◌, [], ◌++◌, min, IfOk, OnOk, subst, refl, sym, ap, ◌∙◌, arith}
 use Rattle.syn_expr_spec.specs.Summaries.{summary_of}
-use Rattle.syn_expr_fixup.specs.Below.{AreFirst, operands_below, operands_visited}
-use Rattle.syn_expr_fixup.specs.Visited.{visited}
-use Rattle.syn_expr_fixup.proofs.Nodes.{below_is, leaf_operands, summary_is, visited_is}
+use Rattle.syn_expr_fixup.specs.Below.{AreFirst, operands_below, operands_size, total}
+use Rattle.syn_expr_spec.specs.Tree.{size}
+use Rattle.syn_expr_fixup.proofs.Nodes.{below_is, leaf_operands, leaf_strays, summary_is, size_is}
 use Rattle.syn_expr_fixup.proofs.Spines.{on_map}
 use Rattle.syn_expr_fixup.proofs.summary.collect_leaf.Goals as goal
 
@@ -27,7 +27,8 @@ returns-clause-kept g c =
 pub returns-clause-counted : goal.returns-clause-counted
 returns-clause-counted g c =
     let t = g.E.HasExprTree.tree c.args.x.now in
-    let o = ap operands_visited (leaf_operands t c.args.kind c.requires) in
-    let v = visited_is t in
-    let e : c.tick.new.visits ≡ min (c.args.visits.now + visited t) (2 ^ 64 - 1) = omega arith in
+    let o = ap operands_size (leaf_operands t c.args.kind c.requires) in
+    let v = size_is t in
+    let w = ap (total size) (leaf_strays t c.args.kind c.requires) in
+    let e : c.tick.new.visits ≡ min (c.args.visits.now + size t) (2 ^ 64 - 1) = omega arith in
     on_map c.keep.result c.keep.ensures.kept (λ _. e)

@@ -4,8 +4,9 @@ use Rattle.std.specs.List.{list_all}
 use Rattle.syn_expr_spec.specs.WellFormed.{well}
 use Rattle.syn_expr_ast.specs.Node.{operands_of}
 use Rattle.syn_expr_ast.specs.View.{field_value_of}
-use Rattle.syn_expr_fixup.specs.Below.{operands_visited, total, arm_visited}
-use Rattle.syn_expr_fixup.proofs.Lists.{arms_visited}
+use Rattle.syn_expr_fixup.specs.Below.{operands_size, total, arm_size}
+use Rattle.syn_expr_fixup.proofs.Lists.{arms_size}
+use Rattle.syn_expr_fixup.proofs.Nodes.{size_is}
 use Rattle.syn_expr_wellformed.specs.Slots.{dots_of}
 use Rattle.syn_expr_wellformed.specs.Well.{slot_at, dots_at}
 use Rattle.syn_expr_wellformed.specs.Walk.{operands_well, field_well}
@@ -29,9 +30,15 @@ field_list_well-returns-in-Some g t c =
 
 pub operands_well-arms_well-requires : goal.operands_well-arms_well-requires
 operands_well-arms_well-requires g t c κs within =
-    let i = ap (λ o. operands_visited (operands_of g.E.HasExprTree.tree g.E.Arm.HasArmView.view o)) c.in-Arms.is in
-    let a = arms_visited g.E.Arm.HasArmView.view c.in-Arms.arms.now.items in
-    let v = ap (total (λ x. arm_visited (g.E.Arm.HasArmView.view x))) c.deref-then-is_well-7.ensures.value in
+    let i = ap (λ o. operands_size (operands_of g.E.HasExprTree.tree g.E.Arm.HasArmView.view o)) c.in-Arms.is in
+    let a = arms_size g.E.Arm.HasArmView.view c.in-Arms.arms.now.items in
+    let v = ap (total (λ x. arm_size (g.E.Arm.HasArmView.view x))) c.deref-then-is_well-7.ensures.value in
+    search rules
+
+pub is_well-operands_well-requires : goal.is_well-operands_well-requires
+is_well-operands_well-requires g t c =
+    let v = ap operands_size c.operands.ensures in
+    let w = size_is (g.E.HasExprTree.tree c.args.expr.now) in
     search rules
 
 pub is_well-returns-then-node_fits : goal.is_well-returns-then-node_fits
