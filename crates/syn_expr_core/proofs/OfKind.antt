@@ -1,5 +1,5 @@
 -- An expression is of a kind exactly where it is of the variant of it.
-use Rattle.std.proofs.Common.{◌≡◌, ◌⊎◌, inl, inr, ⊎_elim, Bool, true, false, List, [], ◌∷◌, Option, Some, None, refl, ap, sym, ◌∙◌, rules}
+use Rattle.std.proofs.Common.{◌≡◌, ◌⊎◌, inl, inr, ⊎_elim, Bool, true, false, List, [], ◌∷◌, Option, Some, None, refl, ap, sym, subst, ◌∙◌, rules}
 use Rattle.std.proofs.lemmas.Bool.{false_from_ne_true}
 use Rattle.syn_lower_spec.specs.Text.{Text}
 use Rattle.syn_lower_spec.specs.Tree.{AttributeTree, ReturnTree, default, given}
@@ -45,6 +45,8 @@ use Rattle.syn_expr_core.specs.declared.control.Arm.{Arm}
 use Rattle.syn_expr_core.specs.declared.control.ExprForLoop.{ExprForLoop}
 use Rattle.syn_expr_core.specs.declared.control.ExprLet.{ExprLet}
 use Rattle.syn_expr_core.specs.declared.control.ExprMatch.{ExprMatch}
+use Rattle.syn_expr_core.specs.Taken.{taken_at, taken_of, IsStruct}
+use Rattle.syn_expr_core.specs.declared.expr.taken.Taken.{Taken}
 use Rattle.syn_expr_core.specs.View.{tree_layer, tree_of, views, closure_of, for_loop_of, let_of, match_of}
 use Rattle.syn_expr_core.proofs.TreeOf.{tree_out, tree-Group, tree-Array, tree-Assign, tree-Await, tree-Binary, tree-Break, tree-Call, tree-Cast, tree-Closure, tree-Field, tree-ForLoop, tree-If, tree-Index, tree-Let, tree-Match, tree-MethodCall, tree-Paren, tree-Range, tree-RawAddr, tree-Repeat, tree-Return, tree-Try, tree-Tuple, tree-Unary, tree-While, tree-Yield, closure-is, for_loop-is, let_expr-is, match_expr-is}
 
@@ -216,115 +218,67 @@ array_kind : (t : Tree) → is_array t ≡ true → kind t ≡ k_array
 array_kind (frame tr.array ks) h = refl
 array_kind _ h = absurd cc
 
-pub not_array : (v : Expr) → ((x : ExprArrayOf Expr) → v ≡ ex.Array x → ⊥) → is_array (unattributed (tree_of v)) ≡ false
-not_array = not_kind ex.Array is_array k_array array_kind (elim [ Expr-F.Array x ↦ inl (x, ex.rolls-Array x) | _ ↦ inr (λ h. cc) ])
-
 assign_kind : (t : Tree) → is_assign t ≡ true → kind t ≡ k_assign
 assign_kind (infixed x inf.Assign y) h = refl
 assign_kind _ h = absurd cc
-
-pub not_assign : (v : Expr) → ((x : ExprAssignOf Expr) → v ≡ ex.Assign x → ⊥) → is_assign (unattributed (tree_of v)) ≡ false
-not_assign = not_kind ex.Assign is_assign k_assign assign_kind (elim [ Expr-F.Assign x ↦ inl (x, ex.rolls-Assign x) | _ ↦ inr (λ h. cc) ])
 
 await_kind : (t : Tree) → is_await t ≡ true → kind t ≡ k_await
 await_kind (tail b tr.await ks) h = refl
 await_kind _ h = absurd cc
 
-pub not_await : (v : Expr) → ((x : ExprAwaitOf Expr) → v ≡ ex.Await x → ⊥) → is_await (unattributed (tree_of v)) ≡ false
-not_await = not_kind ex.Await is_await k_await await_kind (elim [ Expr-F.Await x ↦ inl (x, ex.rolls-Await x) | _ ↦ inr (λ h. cc) ])
-
 binary_kind : (t : Tree) → is_binary t ≡ true → kind t ≡ k_binary
 binary_kind (infixed x (inf.Binary op) y) h = refl
 binary_kind _ h = absurd cc
-
-pub not_binary : (v : Expr) → ((x : ExprBinaryOf Expr) → v ≡ ex.Binary x → ⊥) → is_binary (unattributed (tree_of v)) ≡ false
-not_binary = not_kind ex.Binary is_binary k_binary binary_kind (elim [ Expr-F.Binary x ↦ inl (x, ex.rolls-Binary x) | _ ↦ inr (λ h. cc) ])
 
 break_kind : (t : Tree) → is_break t ≡ true → kind t ≡ k_break
 break_kind (leaf (tr.bare_jump (tr.breaking w))) h = refl
 break_kind (prefixed (tr.jump (tr.breaking w)) gs x) h = refl
 break_kind _ h = absurd cc
 
-pub not_break : (v : Expr) → ((x : ExprBreakOf Expr) → v ≡ ex.Break x → ⊥) → is_break (unattributed (tree_of v)) ≡ false
-not_break = not_kind ex.Break is_break k_break break_kind (elim [ Expr-F.Break x ↦ inl (x, ex.rolls-Break x) | _ ↦ inr (λ h. cc) ])
-
 call_kind : (t : Tree) → is_call t ≡ true → kind t ≡ k_call
 call_kind (tail b tr.call ks) h = refl
 call_kind _ h = absurd cc
 
-pub not_call : (v : Expr) → ((x : ExprCallOf Expr) → v ≡ ex.Call x → ⊥) → is_call (unattributed (tree_of v)) ≡ false
-not_call = not_kind ex.Call is_call k_call call_kind (elim [ Expr-F.Call x ↦ inl (x, ex.rolls-Call x) | _ ↦ inr (λ h. cc) ])
-
 cast_kind : (t : Tree) → is_cast t ≡ true → kind t ≡ k_cast
 cast_kind (postfixed x (tr.cast ty)) h = refl
 cast_kind _ h = absurd cc
-
-pub not_cast : (v : Expr) → ((x : ExprCastOf Expr) → v ≡ ex.Cast x → ⊥) → is_cast (unattributed (tree_of v)) ≡ false
-not_cast = not_kind ex.Cast is_cast k_cast cast_kind (elim [ Expr-F.Cast x ↦ inl (x, ex.rolls-Cast x) | _ ↦ inr (λ h. cc) ])
 
 closure_kind : (t : Tree) → is_closure t ≡ true → kind t ≡ k_closure
 closure_kind (prefixed (tr.closure c) gs x) h = refl
 closure_kind (frame (tr.closure_block c) ks) h = refl
 closure_kind _ h = absurd cc
 
-pub not_closure : (v : Expr) → ((x : ExprClosure) → v ≡ ex.Closure x → ⊥) → is_closure (unattributed (tree_of v)) ≡ false
-not_closure = not_kind ex.Closure is_closure k_closure closure_kind (elim [ Expr-F.Closure x ↦ inl (x, ex.rolls-Closure x) | _ ↦ inr (λ h. cc) ])
-
 field_kind : (t : Tree) → is_field t ≡ true → kind t ≡ k_field
 field_kind (tail b (tr.field m) ks) h = refl
 field_kind _ h = absurd cc
-
-pub not_field : (v : Expr) → ((x : ExprFieldOf Expr) → v ≡ ex.Field x → ⊥) → is_field (unattributed (tree_of v)) ≡ false
-not_field = not_kind ex.Field is_field k_field field_kind (elim [ Expr-F.Field x ↦ inl (x, ex.rolls-Field x) | _ ↦ inr (λ h. cc) ])
 
 for_loop_kind : (t : Tree) → is_for_loop t ≡ true → kind t ≡ k_for_loop
 for_loop_kind (frame (tr.for_loop w p) ks) h = refl
 for_loop_kind _ h = absurd cc
 
-pub not_for_loop : (v : Expr) → ((x : ExprForLoop) → v ≡ ex.ForLoop x → ⊥) → is_for_loop (unattributed (tree_of v)) ≡ false
-not_for_loop = not_kind ex.ForLoop is_for_loop k_for_loop for_loop_kind (elim [ Expr-F.ForLoop x ↦ inl (x, ex.rolls-ForLoop x) | _ ↦ inr (λ h. cc) ])
-
 if_kind : (t : Tree) → is_if_expr t ≡ true → kind t ≡ k_if
 if_kind (frame tr.if_expr ks) h = refl
 if_kind _ h = absurd cc
-
-pub not_if : (v : Expr) → ((x : ExprIfOf Expr) → v ≡ ex.If x → ⊥) → is_if_expr (unattributed (tree_of v)) ≡ false
-not_if = not_kind ex.If is_if_expr k_if if_kind (elim [ Expr-F.If x ↦ inl (x, ex.rolls-If x) | _ ↦ inr (λ h. cc) ])
 
 index_kind : (t : Tree) → is_index t ≡ true → kind t ≡ k_index
 index_kind (tail b tr.index ks) h = refl
 index_kind _ h = absurd cc
 
-pub not_index : (v : Expr) → ((x : ExprIndexOf Expr) → v ≡ ex.Index x → ⊥) → is_index (unattributed (tree_of v)) ≡ false
-not_index = not_kind ex.Index is_index k_index index_kind (elim [ Expr-F.Index x ↦ inl (x, ex.rolls-Index x) | _ ↦ inr (λ h. cc) ])
-
 let_kind : (t : Tree) → is_let t ≡ true → kind t ≡ k_let
 let_kind (prefixed (tr.let_expr p) gs x) h = refl
 let_kind _ h = absurd cc
-
-pub not_let : (v : Expr) → ((x : ExprLet) → v ≡ ex.Let x → ⊥) → is_let (unattributed (tree_of v)) ≡ false
-not_let = not_kind ex.Let is_let k_let let_kind (elim [ Expr-F.Let x ↦ inl (x, ex.rolls-Let x) | _ ↦ inr (λ h. cc) ])
 
 match_kind : (t : Tree) → is_match t ≡ true → kind t ≡ k_match
 match_kind (frame tr.match_expr ks) h = refl
 match_kind _ h = absurd cc
 
-pub not_match : (v : Expr) → ((x : ExprMatch) → v ≡ ex.Match x → ⊥) → is_match (unattributed (tree_of v)) ≡ false
-not_match = not_kind ex.Match is_match k_match match_kind (elim [ Expr-F.Match x ↦ inl (x, ex.rolls-Match x) | _ ↦ inr (λ h. cc) ])
-
 method_call_kind : (t : Tree) → is_method_call t ≡ true → kind t ≡ k_method_call
 method_call_kind (tail b (tr.method w a) ks) h = refl
 method_call_kind _ h = absurd cc
 
-pub not_method_call : (v : Expr) → ((x : ExprMethodCallOf Expr) → v ≡ ex.MethodCall x → ⊥) → is_method_call (unattributed (tree_of v)) ≡ false
-not_method_call = not_kind ex.MethodCall is_method_call k_method_call method_call_kind (elim [ Expr-F.MethodCall x ↦ inl (x, ex.rolls-MethodCall x) | _ ↦ inr (λ h. cc) ])
-
 paren_kind : (t : Tree) → is_paren t ≡ true → kind t ≡ k_paren
 paren_kind (paren m x) h = refl
 paren_kind _ h = absurd cc
-
-pub not_paren : (v : Expr) → ((x : ExprParenOf Expr) → v ≡ ex.Paren x → ⊥) → is_paren (unattributed (tree_of v)) ≡ false
-not_paren = not_kind ex.Paren is_paren k_paren paren_kind (elim [ Expr-F.Expr::Paren x ↦ inl (x, ex.rolls-Paren x) | _ ↦ inr (λ h. cc) ])
 
 range_kind : (t : Tree) → is_range t ≡ true → kind t ≡ k_range
 range_kind (attributed a more x) h = range_kind x h
@@ -334,66 +288,39 @@ range_kind (infixed x (inf.Range op) y) h = refl
 range_kind (postfixed x (tr.range_from op)) h = refl
 range_kind _ h = absurd cc
 
-pub not_range : (v : Expr) → ((x : ExprRangeOf Expr) → v ≡ ex.Range x → ⊥) → is_range (unattributed (tree_of v)) ≡ false
-not_range = not_kind ex.Range is_range k_range range_kind (elim [ Expr-F.Expr::Range x ↦ inl (x, ex.rolls-Range x) | _ ↦ inr (λ h. cc) ])
-
 raw_addr_kind : (t : Tree) → is_raw_addr t ≡ true → kind t ≡ k_raw_addr
 raw_addr_kind (prefixed (tr.raw_addr m) gs x) h = refl
 raw_addr_kind _ h = absurd cc
 
-pub not_raw_addr : (v : Expr) → ((x : ExprRawAddrOf Expr) → v ≡ ex.RawAddr x → ⊥) → is_raw_addr (unattributed (tree_of v)) ≡ false
-not_raw_addr = not_kind ex.RawAddr is_raw_addr k_raw_addr raw_addr_kind (elim [ Expr-F.RawAddr x ↦ inl (x, ex.rolls-RawAddr x) | _ ↦ inr (λ h. cc) ])
-
 repeat_kind : (t : Tree) → is_repeat t ≡ true → kind t ≡ k_repeat
 repeat_kind (frame tr.repeat ks) h = refl
 repeat_kind _ h = absurd cc
-
-pub not_repeat : (v : Expr) → ((x : ExprRepeatOf Expr) → v ≡ ex.Repeat x → ⊥) → is_repeat (unattributed (tree_of v)) ≡ false
-not_repeat = not_kind ex.Repeat is_repeat k_repeat repeat_kind (elim [ Expr-F.Repeat x ↦ inl (x, ex.rolls-Repeat x) | _ ↦ inr (λ h. cc) ])
 
 return_kind : (t : Tree) → is_return t ≡ true → kind t ≡ k_return
 return_kind (leaf (tr.bare_jump tr.returning)) h = refl
 return_kind (prefixed (tr.jump tr.returning) gs x) h = refl
 return_kind _ h = absurd cc
 
-pub not_return : (v : Expr) → ((x : ExprReturnOf Expr) → v ≡ ex.Return x → ⊥) → is_return (unattributed (tree_of v)) ≡ false
-not_return = not_kind ex.Return is_return k_return return_kind (elim [ Expr-F.Return x ↦ inl (x, ex.rolls-Return x) | _ ↦ inr (λ h. cc) ])
-
 try_kind : (t : Tree) → is_try t ≡ true → kind t ≡ k_try
 try_kind (tail b tr.try_expr ks) h = refl
 try_kind _ h = absurd cc
-
-pub not_try : (v : Expr) → ((x : ExprTryOf Expr) → v ≡ ex.Try x → ⊥) → is_try (unattributed (tree_of v)) ≡ false
-not_try = not_kind ex.Try is_try k_try try_kind (elim [ Expr-F.Try x ↦ inl (x, ex.rolls-Try x) | _ ↦ inr (λ h. cc) ])
 
 tuple_kind : (t : Tree) → is_tuple t ≡ true → kind t ≡ k_tuple
 tuple_kind (frame tr.tuple ks) h = refl
 tuple_kind _ h = absurd cc
 
-pub not_tuple : (v : Expr) → ((x : ExprTupleOf Expr) → v ≡ ex.Tuple x → ⊥) → is_tuple (unattributed (tree_of v)) ≡ false
-not_tuple = not_kind ex.Tuple is_tuple k_tuple tuple_kind (elim [ Expr-F.Expr::Tuple x ↦ inl (x, ex.rolls-Tuple x) | _ ↦ inr (λ h. cc) ])
-
 unary_kind : (t : Tree) → is_unary t ≡ true → kind t ≡ k_unary
 unary_kind (prefixed (tr.unary op) gs x) h = refl
 unary_kind _ h = absurd cc
-
-pub not_unary : (v : Expr) → ((x : ExprUnaryOf Expr) → v ≡ ex.Unary x → ⊥) → is_unary (unattributed (tree_of v)) ≡ false
-not_unary = not_kind ex.Unary is_unary k_unary unary_kind (elim [ Expr-F.Unary x ↦ inl (x, ex.rolls-Unary x) | _ ↦ inr (λ h. cc) ])
 
 while_kind : (t : Tree) → is_while t ≡ true → kind t ≡ k_while
 while_kind (frame (tr.while_loop w) ks) h = refl
 while_kind _ h = absurd cc
 
-pub not_while : (v : Expr) → ((x : ExprWhileOf Expr) → v ≡ ex.While x → ⊥) → is_while (unattributed (tree_of v)) ≡ false
-not_while = not_kind ex.While is_while k_while while_kind (elim [ Expr-F.While x ↦ inl (x, ex.rolls-While x) | _ ↦ inr (λ h. cc) ])
-
 yield_kind : (t : Tree) → is_yield t ≡ true → kind t ≡ k_yield
 yield_kind (leaf (tr.bare_jump tr.yielding)) h = refl
 yield_kind (prefixed (tr.jump tr.yielding) gs x) h = refl
 yield_kind _ h = absurd cc
-
-pub not_yield : (v : Expr) → ((x : ExprYieldOf Expr) → v ≡ ex.Yield x → ⊥) → is_yield (unattributed (tree_of v)) ≡ false
-not_yield = not_kind ex.Yield is_yield k_yield yield_kind (elim [ Expr-F.Yield x ↦ inl (x, ex.rolls-Yield x) | _ ↦ inr (λ h. cc) ])
 
 -- ---- and a value of it is
 
@@ -519,87 +446,126 @@ while_is x = search (rules, of_kind is_while)
 yield_is : (x : ExprYieldOf Expr) → is_yield (unattributed (expr_yield_of tree_of x)) ≡ true
 yield_is x = search (rules, of_kind is_yield, jump_bare, yield_with)
 
--- a value of a variant, for what takes it apart
+-- of a variant by itself, for who asks by reference
+
 found : {S : Type 0} (variant : S → Expr) (tree : S → Tree) (is : Tree → Bool) → ((x : S) → tree_of (variant x) ≡ tree x) → ((x : S) → is (unattributed (tree x)) ≡ true)
     → (v : Expr) (x : S) → v ≡ variant x → (tree x ≡ tree_of v) × (is (unattributed (tree_of v)) ≡ true)
 found variant tree is shown holds v x same =
     let h : tree_of v ≡ tree x = ap tree_of same ∙ shown x in
     (sym h, ap (λ t. is (unattributed t)) h ∙ holds x)
 
-pub found_array : (v : Expr) (x : ExprArrayOf Expr) → v ≡ ex.Array x → (expr_array_of tree_of x ≡ tree_of v) × (is_array (unattributed (tree_of v)) ≡ true)
-found_array = found ex.Array (expr_array_of tree_of) is_array tree-Array array_is
-
-pub found_assign : (v : Expr) (x : ExprAssignOf Expr) → v ≡ ex.Assign x → (expr_assign_of tree_of x ≡ tree_of v) × (is_assign (unattributed (tree_of v)) ≡ true)
-found_assign = found ex.Assign (expr_assign_of tree_of) is_assign tree-Assign assign_is
-
-pub found_await : (v : Expr) (x : ExprAwaitOf Expr) → v ≡ ex.Await x → (expr_await_of tree_of x ≡ tree_of v) × (is_await (unattributed (tree_of v)) ≡ true)
-found_await = found ex.Await (expr_await_of tree_of) is_await tree-Await await_is
-
-pub found_binary : (v : Expr) (x : ExprBinaryOf Expr) → v ≡ ex.Binary x → (expr_binary_of tree_of x ≡ tree_of v) × (is_binary (unattributed (tree_of v)) ≡ true)
-found_binary = found ex.Binary (expr_binary_of tree_of) is_binary tree-Binary binary_is
-
-pub found_break : (v : Expr) (x : ExprBreakOf Expr) → v ≡ ex.Break x → (expr_break_of tree_of x ≡ tree_of v) × (is_break (unattributed (tree_of v)) ≡ true)
-found_break = found ex.Break (expr_break_of tree_of) is_break tree-Break break_is
-
-pub found_call : (v : Expr) (x : ExprCallOf Expr) → v ≡ ex.Call x → (expr_call_of tree_of x ≡ tree_of v) × (is_call (unattributed (tree_of v)) ≡ true)
-found_call = found ex.Call (expr_call_of tree_of) is_call tree-Call call_is
-
-pub found_cast : (v : Expr) (x : ExprCastOf Expr) → v ≡ ex.Cast x → (expr_cast_of tree_of x ≡ tree_of v) × (is_cast (unattributed (tree_of v)) ≡ true)
-found_cast = found ex.Cast (expr_cast_of tree_of) is_cast tree-Cast cast_is
-
 pub found_closure : (v : Expr) (x : ExprClosure) → v ≡ ex.Closure x → (closure_of x ≡ tree_of v) × (is_closure (unattributed (tree_of v)) ≡ true)
 found_closure = found ex.Closure closure_of is_closure tree-Closure closure_is
 
-pub found_field : (v : Expr) (x : ExprFieldOf Expr) → v ≡ ex.Field x → (expr_field_of tree_of x ≡ tree_of v) × (is_field (unattributed (tree_of v)) ≡ true)
-found_field = found ex.Field (expr_field_of tree_of) is_field tree-Field field_is
+pub not_closure : (v : Expr) → ((x : ExprClosure) → v ≡ ex.Closure x → ⊥) → is_closure (unattributed (tree_of v)) ≡ false
+not_closure = not_kind ex.Closure is_closure k_closure closure_kind (elim [ Expr-F.Closure x ↦ inl (x, ex.rolls-Closure x) | _ ↦ inr (λ h. cc) ])
 
-pub found_for_loop : (v : Expr) (x : ExprForLoop) → v ≡ ex.ForLoop x → (for_loop_of x ≡ tree_of v) × (is_for_loop (unattributed (tree_of v)) ≡ true)
-found_for_loop = found ex.ForLoop for_loop_of is_for_loop tree-ForLoop for_loop_is
-
-pub found_if : (v : Expr) (x : ExprIfOf Expr) → v ≡ ex.If x → (expr_if_of tree_of x ≡ tree_of v) × (is_if_expr (unattributed (tree_of v)) ≡ true)
-found_if = found ex.If (expr_if_of tree_of) is_if_expr tree-If if_is
-
-pub found_index : (v : Expr) (x : ExprIndexOf Expr) → v ≡ ex.Index x → (expr_index_of tree_of x ≡ tree_of v) × (is_index (unattributed (tree_of v)) ≡ true)
-found_index = found ex.Index (expr_index_of tree_of) is_index tree-Index index_is
-
-pub found_let : (v : Expr) (x : ExprLet) → v ≡ ex.Let x → (let_of x ≡ tree_of v) × (is_let (unattributed (tree_of v)) ≡ true)
-found_let = found ex.Let let_of is_let tree-Let let_is
-
-pub found_match : (v : Expr) (x : ExprMatch) → v ≡ ex.Match x → (match_of x ≡ tree_of v) × (is_match (unattributed (tree_of v)) ≡ true)
-found_match = found ex.Match match_of is_match tree-Match match_is
-
-pub found_method_call : (v : Expr) (x : ExprMethodCallOf Expr) → v ≡ ex.MethodCall x → (expr_method_call_of tree_of x ≡ tree_of v) × (is_method_call (unattributed (tree_of v)) ≡ true)
-found_method_call = found ex.MethodCall (expr_method_call_of tree_of) is_method_call tree-MethodCall method_call_is
-
-pub found_paren : (v : Expr) (x : ExprParenOf Expr) → v ≡ ex.Paren x → (expr_paren_of tree_of x ≡ tree_of v) × (is_paren (unattributed (tree_of v)) ≡ true)
-found_paren = found ex.Paren (expr_paren_of tree_of) is_paren tree-Paren paren_is
-
-pub found_range : (v : Expr) (x : ExprRangeOf Expr) → v ≡ ex.Range x → (expr_range_of tree_of x ≡ tree_of v) × (is_range (unattributed (tree_of v)) ≡ true)
-found_range = found ex.Range (expr_range_of tree_of) is_range tree-Range range_is
-
-pub found_raw_addr : (v : Expr) (x : ExprRawAddrOf Expr) → v ≡ ex.RawAddr x → (expr_raw_addr_of tree_of x ≡ tree_of v) × (is_raw_addr (unattributed (tree_of v)) ≡ true)
-found_raw_addr = found ex.RawAddr (expr_raw_addr_of tree_of) is_raw_addr tree-RawAddr raw_addr_is
-
-pub found_repeat : (v : Expr) (x : ExprRepeatOf Expr) → v ≡ ex.Repeat x → (expr_repeat_of tree_of x ≡ tree_of v) × (is_repeat (unattributed (tree_of v)) ≡ true)
-found_repeat = found ex.Repeat (expr_repeat_of tree_of) is_repeat tree-Repeat repeat_is
+pub not_method_call : (v : Expr) → ((x : ExprMethodCallOf Expr) → v ≡ ex.MethodCall x → ⊥) → is_method_call (unattributed (tree_of v)) ≡ false
+not_method_call = not_kind ex.MethodCall is_method_call k_method_call method_call_kind (elim [ Expr-F.MethodCall x ↦ inl (x, ex.rolls-MethodCall x) | _ ↦ inr (λ h. cc) ])
 
 pub found_return : (v : Expr) (x : ExprReturnOf Expr) → v ≡ ex.Return x → (expr_return_of tree_of x ≡ tree_of v) × (is_return (unattributed (tree_of v)) ≡ true)
 found_return = found ex.Return (expr_return_of tree_of) is_return tree-Return return_is
 
-pub found_try : (v : Expr) (x : ExprTryOf Expr) → v ≡ ex.Try x → (expr_try_of tree_of x ≡ tree_of v) × (is_try (unattributed (tree_of v)) ≡ true)
-found_try = found ex.Try (expr_try_of tree_of) is_try tree-Try try_is
+pub not_return : (v : Expr) → ((x : ExprReturnOf Expr) → v ≡ ex.Return x → ⊥) → is_return (unattributed (tree_of v)) ≡ false
+not_return = not_kind ex.Return is_return k_return return_kind (elim [ Expr-F.Return x ↦ inl (x, ex.rolls-Return x) | _ ↦ inr (λ h. cc) ])
 
-pub found_tuple : (v : Expr) (x : ExprTupleOf Expr) → v ≡ ex.Tuple x → (expr_tuple_of tree_of x ≡ tree_of v) × (is_tuple (unattributed (tree_of v)) ≡ true)
-found_tuple = found ex.Tuple (expr_tuple_of tree_of) is_tuple tree-Tuple tuple_is
+-- ---- the place of each kind in what an expression is taken apart to
 
-pub found_unary : (v : Expr) (x : ExprUnaryOf Expr) → v ≡ ex.Unary x → (expr_unary_of tree_of x ≡ tree_of v) × (is_unary (unattributed (tree_of v)) ≡ true)
-found_unary = found ex.Unary (expr_unary_of tree_of) is_unary tree-Unary unary_is
+taken_kind : {S : Type 0} (variant : S → Expr) (place : Taken → Option S) (tree : S → Tree) (is : Tree → Bool) (k : Kind) → ((t : Tree) → is t ≡ true → kind t ≡ k)
+    → ((x : S) → tree_of (variant x) ≡ tree x) → ((x : S) → is (unattributed (tree x)) ≡ true)
+    → ((e : Expr) (l : Expr-F Expr Pat ExprClosure Arm ExprForLoop ExprLet ExprMatch PatGuard)
+    → ((x : S) × (roll-Expr l ≡ variant x) × (place (taken_at e l) ≡ Some x)) ⊎ ((place (taken_at e l) ≡ None) × (layer_kind l ≡ k → ⊥)))
+    → (v : Expr) → IsStruct tree is v (place (taken_of v))
+taken_kind variant place tree is k f shown holds levels v =
+    ⊎_elim (λ h.
+    let same : v ≡ variant h.0 = sym (roll-out-Expr v) ∙ h.1 in
+    let e : tree_of v ≡ tree h.0 = ap tree_of same ∙ shown h.0 in
+    subst (IsStruct tree is v) (sym h.2) (sym e, ap (λ t. is (unattributed t)) e ∙ holds h.0))
+    (λ h. subst (IsStruct tree is v) (sym h.0) (false_from_ne_true (is (unattributed (tree_of v)))
+    (λ e. h.1 (sym (kind_is (out-Expr v)) ∙ ap kind (sym (tree_out v)) ∙ behind is k f (tree_of v) e))))
+    (levels v (out-Expr v))
 
-pub found_while : (v : Expr) (x : ExprWhileOf Expr) → v ≡ ex.While x → (expr_while_of tree_of x ≡ tree_of v) × (is_while (unattributed (tree_of v)) ≡ true)
-found_while = found ex.While (expr_while_of tree_of) is_while tree-While while_is
+-- as it is asked: of what was taken, and of what the place gave
+placed : {S : Type 0} (place : Taken → Option S) (tree : S → Tree) (is : Tree → Bool) → ((v : Expr) → IsStruct tree is v (place (taken_of v)))
+    → (t : Taken) (o : Option S) → o ≡ place t → (v : Expr) → t ≡ taken_of v → IsStruct tree is v o
+placed place tree is f t o e v h = subst (IsStruct tree is v) (sym (e ∙ ap place h)) (f v)
 
-pub found_yield : (v : Expr) (x : ExprYieldOf Expr) → v ≡ ex.Yield x → (expr_yield_of tree_of x ≡ tree_of v) × (is_yield (unattributed (tree_of v)) ≡ true)
-found_yield = found ex.Yield (expr_yield_of tree_of) is_yield tree-Yield yield_is
+pub taken_array : (t : Taken) (o : Option (ExprArrayOf Expr)) → o ≡ t.array → (v : Expr) → t ≡ taken_of v → IsStruct (expr_array_of tree_of) is_array v o
+taken_array = placed (λ t. t.array) (expr_array_of tree_of) is_array (taken_kind ex.Array (λ t. t.array) (expr_array_of tree_of) is_array k_array array_kind tree-Array array_is (λ e. elim [ Expr-F.Array x ↦ inl (x, ex.rolls-Array x, refl) | _ ↦ inr (refl, λ h. cc) ]))
+
+pub taken_assign : (t : Taken) (o : Option (ExprAssignOf Expr)) → o ≡ t.assign → (v : Expr) → t ≡ taken_of v → IsStruct (expr_assign_of tree_of) is_assign v o
+taken_assign = placed (λ t. t.assign) (expr_assign_of tree_of) is_assign (taken_kind ex.Assign (λ t. t.assign) (expr_assign_of tree_of) is_assign k_assign assign_kind tree-Assign assign_is (λ e. elim [ Expr-F.Assign x ↦ inl (x, ex.rolls-Assign x, refl) | _ ↦ inr (refl, λ h. cc) ]))
+
+pub taken_await : (t : Taken) (o : Option (ExprAwaitOf Expr)) → o ≡ t.await_expr → (v : Expr) → t ≡ taken_of v → IsStruct (expr_await_of tree_of) is_await v o
+taken_await = placed (λ t. t.await_expr) (expr_await_of tree_of) is_await (taken_kind ex.Await (λ t. t.await_expr) (expr_await_of tree_of) is_await k_await await_kind tree-Await await_is (λ e. elim [ Expr-F.Await x ↦ inl (x, ex.rolls-Await x, refl) | _ ↦ inr (refl, λ h. cc) ]))
+
+pub taken_binary : (t : Taken) (o : Option (ExprBinaryOf Expr)) → o ≡ t.binary → (v : Expr) → t ≡ taken_of v → IsStruct (expr_binary_of tree_of) is_binary v o
+taken_binary = placed (λ t. t.binary) (expr_binary_of tree_of) is_binary (taken_kind ex.Binary (λ t. t.binary) (expr_binary_of tree_of) is_binary k_binary binary_kind tree-Binary binary_is (λ e. elim [ Expr-F.Binary x ↦ inl (x, ex.rolls-Binary x, refl) | _ ↦ inr (refl, λ h. cc) ]))
+
+pub taken_break : (t : Taken) (o : Option (ExprBreakOf Expr)) → o ≡ t.break_expr → (v : Expr) → t ≡ taken_of v → IsStruct (expr_break_of tree_of) is_break v o
+taken_break = placed (λ t. t.break_expr) (expr_break_of tree_of) is_break (taken_kind ex.Break (λ t. t.break_expr) (expr_break_of tree_of) is_break k_break break_kind tree-Break break_is (λ e. elim [ Expr-F.Break x ↦ inl (x, ex.rolls-Break x, refl) | _ ↦ inr (refl, λ h. cc) ]))
+
+pub taken_call : (t : Taken) (o : Option (ExprCallOf Expr)) → o ≡ t.call → (v : Expr) → t ≡ taken_of v → IsStruct (expr_call_of tree_of) is_call v o
+taken_call = placed (λ t. t.call) (expr_call_of tree_of) is_call (taken_kind ex.Call (λ t. t.call) (expr_call_of tree_of) is_call k_call call_kind tree-Call call_is (λ e. elim [ Expr-F.Call x ↦ inl (x, ex.rolls-Call x, refl) | _ ↦ inr (refl, λ h. cc) ]))
+
+pub taken_cast : (t : Taken) (o : Option (ExprCastOf Expr)) → o ≡ t.cast → (v : Expr) → t ≡ taken_of v → IsStruct (expr_cast_of tree_of) is_cast v o
+taken_cast = placed (λ t. t.cast) (expr_cast_of tree_of) is_cast (taken_kind ex.Cast (λ t. t.cast) (expr_cast_of tree_of) is_cast k_cast cast_kind tree-Cast cast_is (λ e. elim [ Expr-F.Cast x ↦ inl (x, ex.rolls-Cast x, refl) | _ ↦ inr (refl, λ h. cc) ]))
+
+pub taken_closure : (t : Taken) (o : Option (ExprClosure)) → o ≡ t.closure → (v : Expr) → t ≡ taken_of v → IsStruct closure_of is_closure v o
+taken_closure = placed (λ t. t.closure) closure_of is_closure (taken_kind ex.Closure (λ t. t.closure) closure_of is_closure k_closure closure_kind tree-Closure closure_is (λ e. elim [ Expr-F.Closure x ↦ inl (x, ex.rolls-Closure x, refl) | _ ↦ inr (refl, λ h. cc) ]))
+
+pub taken_field : (t : Taken) (o : Option (ExprFieldOf Expr)) → o ≡ t.field → (v : Expr) → t ≡ taken_of v → IsStruct (expr_field_of tree_of) is_field v o
+taken_field = placed (λ t. t.field) (expr_field_of tree_of) is_field (taken_kind ex.Field (λ t. t.field) (expr_field_of tree_of) is_field k_field field_kind tree-Field field_is (λ e. elim [ Expr-F.Field x ↦ inl (x, ex.rolls-Field x, refl) | _ ↦ inr (refl, λ h. cc) ]))
+
+pub taken_for_loop : (t : Taken) (o : Option (ExprForLoop)) → o ≡ t.for_loop → (v : Expr) → t ≡ taken_of v → IsStruct for_loop_of is_for_loop v o
+taken_for_loop = placed (λ t. t.for_loop) for_loop_of is_for_loop (taken_kind ex.ForLoop (λ t. t.for_loop) for_loop_of is_for_loop k_for_loop for_loop_kind tree-ForLoop for_loop_is (λ e. elim [ Expr-F.ForLoop x ↦ inl (x, ex.rolls-ForLoop x, refl) | _ ↦ inr (refl, λ h. cc) ]))
+
+pub taken_if : (t : Taken) (o : Option (ExprIfOf Expr)) → o ≡ t.if_expr → (v : Expr) → t ≡ taken_of v → IsStruct (expr_if_of tree_of) is_if_expr v o
+taken_if = placed (λ t. t.if_expr) (expr_if_of tree_of) is_if_expr (taken_kind ex.If (λ t. t.if_expr) (expr_if_of tree_of) is_if_expr k_if if_kind tree-If if_is (λ e. elim [ Expr-F.If x ↦ inl (x, ex.rolls-If x, refl) | _ ↦ inr (refl, λ h. cc) ]))
+
+pub taken_index : (t : Taken) (o : Option (ExprIndexOf Expr)) → o ≡ t.index → (v : Expr) → t ≡ taken_of v → IsStruct (expr_index_of tree_of) is_index v o
+taken_index = placed (λ t. t.index) (expr_index_of tree_of) is_index (taken_kind ex.Index (λ t. t.index) (expr_index_of tree_of) is_index k_index index_kind tree-Index index_is (λ e. elim [ Expr-F.Index x ↦ inl (x, ex.rolls-Index x, refl) | _ ↦ inr (refl, λ h. cc) ]))
+
+pub taken_let : (t : Taken) (o : Option (ExprLet)) → o ≡ t.let_expr → (v : Expr) → t ≡ taken_of v → IsStruct let_of is_let v o
+taken_let = placed (λ t. t.let_expr) let_of is_let (taken_kind ex.Let (λ t. t.let_expr) let_of is_let k_let let_kind tree-Let let_is (λ e. elim [ Expr-F.Let x ↦ inl (x, ex.rolls-Let x, refl) | _ ↦ inr (refl, λ h. cc) ]))
+
+pub taken_match : (t : Taken) (o : Option (ExprMatch)) → o ≡ t.match_expr → (v : Expr) → t ≡ taken_of v → IsStruct match_of is_match v o
+taken_match = placed (λ t. t.match_expr) match_of is_match (taken_kind ex.Match (λ t. t.match_expr) match_of is_match k_match match_kind tree-Match match_is (λ e. elim [ Expr-F.Match x ↦ inl (x, ex.rolls-Match x, refl) | _ ↦ inr (refl, λ h. cc) ]))
+
+pub taken_method_call : (t : Taken) (o : Option (ExprMethodCallOf Expr)) → o ≡ t.method_call → (v : Expr) → t ≡ taken_of v → IsStruct (expr_method_call_of tree_of) is_method_call v o
+taken_method_call = placed (λ t. t.method_call) (expr_method_call_of tree_of) is_method_call (taken_kind ex.MethodCall (λ t. t.method_call) (expr_method_call_of tree_of) is_method_call k_method_call method_call_kind tree-MethodCall method_call_is (λ e. elim [ Expr-F.MethodCall x ↦ inl (x, ex.rolls-MethodCall x, refl) | _ ↦ inr (refl, λ h. cc) ]))
+
+pub taken_paren : (t : Taken) (o : Option (ExprParenOf Expr)) → o ≡ t.paren → (v : Expr) → t ≡ taken_of v → IsStruct (expr_paren_of tree_of) is_paren v o
+taken_paren = placed (λ t. t.paren) (expr_paren_of tree_of) is_paren (taken_kind ex.Paren (λ t. t.paren) (expr_paren_of tree_of) is_paren k_paren paren_kind tree-Paren paren_is (λ e. elim [ Expr-F.Expr::Paren x ↦ inl (x, ex.rolls-Paren x, refl) | _ ↦ inr (refl, λ h. cc) ]))
+
+pub taken_range : (t : Taken) (o : Option (ExprRangeOf Expr)) → o ≡ t.range → (v : Expr) → t ≡ taken_of v → IsStruct (expr_range_of tree_of) is_range v o
+taken_range = placed (λ t. t.range) (expr_range_of tree_of) is_range (taken_kind ex.Range (λ t. t.range) (expr_range_of tree_of) is_range k_range range_kind tree-Range range_is (λ e. elim [ Expr-F.Expr::Range x ↦ inl (x, ex.rolls-Range x, refl) | _ ↦ inr (refl, λ h. cc) ]))
+
+pub taken_raw_addr : (t : Taken) (o : Option (ExprRawAddrOf Expr)) → o ≡ t.raw_addr → (v : Expr) → t ≡ taken_of v → IsStruct (expr_raw_addr_of tree_of) is_raw_addr v o
+taken_raw_addr = placed (λ t. t.raw_addr) (expr_raw_addr_of tree_of) is_raw_addr (taken_kind ex.RawAddr (λ t. t.raw_addr) (expr_raw_addr_of tree_of) is_raw_addr k_raw_addr raw_addr_kind tree-RawAddr raw_addr_is (λ e. elim [ Expr-F.RawAddr x ↦ inl (x, ex.rolls-RawAddr x, refl) | _ ↦ inr (refl, λ h. cc) ]))
+
+pub taken_repeat : (t : Taken) (o : Option (ExprRepeatOf Expr)) → o ≡ t.repeat → (v : Expr) → t ≡ taken_of v → IsStruct (expr_repeat_of tree_of) is_repeat v o
+taken_repeat = placed (λ t. t.repeat) (expr_repeat_of tree_of) is_repeat (taken_kind ex.Repeat (λ t. t.repeat) (expr_repeat_of tree_of) is_repeat k_repeat repeat_kind tree-Repeat repeat_is (λ e. elim [ Expr-F.Repeat x ↦ inl (x, ex.rolls-Repeat x, refl) | _ ↦ inr (refl, λ h. cc) ]))
+
+pub taken_return : (t : Taken) (o : Option (ExprReturnOf Expr)) → o ≡ t.return_expr → (v : Expr) → t ≡ taken_of v → IsStruct (expr_return_of tree_of) is_return v o
+taken_return = placed (λ t. t.return_expr) (expr_return_of tree_of) is_return (taken_kind ex.Return (λ t. t.return_expr) (expr_return_of tree_of) is_return k_return return_kind tree-Return return_is (λ e. elim [ Expr-F.Return x ↦ inl (x, ex.rolls-Return x, refl) | _ ↦ inr (refl, λ h. cc) ]))
+
+pub taken_try : (t : Taken) (o : Option (ExprTryOf Expr)) → o ≡ t.try_expr → (v : Expr) → t ≡ taken_of v → IsStruct (expr_try_of tree_of) is_try v o
+taken_try = placed (λ t. t.try_expr) (expr_try_of tree_of) is_try (taken_kind ex.Try (λ t. t.try_expr) (expr_try_of tree_of) is_try k_try try_kind tree-Try try_is (λ e. elim [ Expr-F.Try x ↦ inl (x, ex.rolls-Try x, refl) | _ ↦ inr (refl, λ h. cc) ]))
+
+pub taken_tuple : (t : Taken) (o : Option (ExprTupleOf Expr)) → o ≡ t.tuple → (v : Expr) → t ≡ taken_of v → IsStruct (expr_tuple_of tree_of) is_tuple v o
+taken_tuple = placed (λ t. t.tuple) (expr_tuple_of tree_of) is_tuple (taken_kind ex.Tuple (λ t. t.tuple) (expr_tuple_of tree_of) is_tuple k_tuple tuple_kind tree-Tuple tuple_is (λ e. elim [ Expr-F.Expr::Tuple x ↦ inl (x, ex.rolls-Tuple x, refl) | _ ↦ inr (refl, λ h. cc) ]))
+
+pub taken_unary : (t : Taken) (o : Option (ExprUnaryOf Expr)) → o ≡ t.unary → (v : Expr) → t ≡ taken_of v → IsStruct (expr_unary_of tree_of) is_unary v o
+taken_unary = placed (λ t. t.unary) (expr_unary_of tree_of) is_unary (taken_kind ex.Unary (λ t. t.unary) (expr_unary_of tree_of) is_unary k_unary unary_kind tree-Unary unary_is (λ e. elim [ Expr-F.Unary x ↦ inl (x, ex.rolls-Unary x, refl) | _ ↦ inr (refl, λ h. cc) ]))
+
+pub taken_while : (t : Taken) (o : Option (ExprWhileOf Expr)) → o ≡ t.while_expr → (v : Expr) → t ≡ taken_of v → IsStruct (expr_while_of tree_of) is_while v o
+taken_while = placed (λ t. t.while_expr) (expr_while_of tree_of) is_while (taken_kind ex.While (λ t. t.while_expr) (expr_while_of tree_of) is_while k_while while_kind tree-While while_is (λ e. elim [ Expr-F.While x ↦ inl (x, ex.rolls-While x, refl) | _ ↦ inr (refl, λ h. cc) ]))
+
+pub taken_yield : (t : Taken) (o : Option (ExprYieldOf Expr)) → o ≡ t.yield_expr → (v : Expr) → t ≡ taken_of v → IsStruct (expr_yield_of tree_of) is_yield v o
+taken_yield = placed (λ t. t.yield_expr) (expr_yield_of tree_of) is_yield (taken_kind ex.Yield (λ t. t.yield_expr) (expr_yield_of tree_of) is_yield k_yield yield_kind tree-Yield yield_is (λ e. elim [ Expr-F.Yield x ↦ inl (x, ex.rolls-Yield x, refl) | _ ↦ inr (refl, λ h. cc) ]))
+
+pub ruleset takes = (taken_array, taken_assign, taken_await, taken_binary, taken_break, taken_call, taken_cast, taken_closure, taken_field, taken_for_loop, taken_if, taken_index, taken_let, taken_match, taken_method_call, taken_paren, taken_range, taken_raw_addr, taken_repeat, taken_return, taken_try, taken_tuple, taken_unary, taken_while, taken_yield)
 
 -- ---- invisible groups
 

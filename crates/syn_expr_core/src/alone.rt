@@ -21,7 +21,7 @@ use crate::expr::{
     ExprUnary, ExprWhile, ExprYield,
 };
 use crate::held::HeldExpr;
-use crate::of_kind::Kind;
+use crate::of_kind::{Kind, struct_of};
 use crate::parse::{expr_at, refusal};
 use std::alloc::AllocError;
 use syn_expr_ast::alone::named_refusal;
@@ -72,13 +72,9 @@ fn operand_of<S: Operand>(input: &mut ParseBuffer<'_>) -> Result<S>
         Ok(x) => x,
         Err(e) => return Err(named_refusal(e, S::begins(&mut first))),
     };
-    match S::of(Box::into_inner(x)) {
-        Ok(x) => Ok(x),
-        Err(expr) => {
-            // The drop of an expression is proved once, for `HeldExpr`.
-            let _held = HeldExpr { expr };
-            Err(named_refusal(other, S::begins(&mut first)))
-        }
+    match struct_of(Box::into_inner(x)) {
+        Some(x) => Ok(x),
+        None => Err(named_refusal(other, S::begins(&mut first))),
     }
 }
 
@@ -135,13 +131,12 @@ fn of_kind<S: Kind>(input: &mut ParseBuffer<'_>, wanted: WantedKind) -> Result<S
         Ok(x) => x,
         Err(e) => return Err(refusal(input, PLAIN, e)),
     };
-    match S::of(Box::into_inner(x).ungrouped()) {
-        Ok(x) => {
+    match struct_of(Box::into_inner(x).ungrouped()) {
+        Some(x) => {
             input.advance_to(&ahead);
             Ok(x)
         }
-        Err(expr) => {
-            let _held = HeldExpr { expr };
+        None => {
             let all = input.span_until(&ahead);
             Err(Error::new(all, ErrorKind::ExpectedExprKind(wanted)))
         }

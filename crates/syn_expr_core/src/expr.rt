@@ -8,6 +8,7 @@ ghost use Rattle.syn_expr_core.specs.declared.expr.Expr.{size-Expr};
 
 mod apart;
 mod node;
+mod taken;
 
 pub use crate::closure::ExprClosure;
 pub use crate::control::{Arm, ExprForLoop, ExprLet, ExprMatch};
@@ -31,6 +32,7 @@ use syn_expr_ast::trailer::{
 use syn_lower::punctuated::Punctuated;
 use syn_tokens::token::Comma;
 use syn_tokens::tree::TokenStream;
+pub(crate) use taken::Taken;
 
 /// An expression.
 #[cycle(expr)]

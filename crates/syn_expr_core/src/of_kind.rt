@@ -1,14 +1,14 @@
 //! The expressions of each kind, taken out of the type of all.
 
-ghost use Rattle.std.specs.Prelude.{◌≡◌, true, false, MatchResult};
-ghost use Rattle.syn_expr_core.specs.View.{tree_of};
-ghost use Rattle.syn_expr_spec.specs.Alone as alone;
+ghost use Rattle.std.specs.Prelude.{◌≡◌};
+ghost use Rattle.syn_expr_core.specs.Taken.{taken_of, IsStruct};
+ghost use Rattle.syn_expr_core.specs.declared.expr.Expr.{Expr};
 
 use crate::expr::{
     Expr, ExprArray, ExprAssign, ExprAwait, ExprBinary, ExprBreak, ExprCall, ExprCast, ExprClosure,
     ExprField, ExprForLoop, ExprIf, ExprIndex, ExprLet, ExprMatch, ExprMethodCall, ExprParen,
     ExprRange, ExprRawAddr, ExprRepeat, ExprReturn, ExprTry, ExprTuple, ExprUnary, ExprWhile,
-    ExprYield, Node,
+    ExprYield, Taken,
 };
 
 /// A struct of the expressions of one kind.
@@ -22,9 +22,17 @@ pub(crate) trait Kind {
     /// Whether a tree without attributes is of the kind.
     ghost is: { Tree → Bool };
 
-    /// The struct in an expression of the kind; any other comes back.
-    fn of(x: Expr) -> std::result::Result<Self, Expr>
-        ensures { MatchResult result (λ s. (tree s ≡ tree_of x) × (is (alone.unattributed (tree_of x)) ≡ true)) (λ y. is (alone.unattributed (tree_of x)) ≡ false) };
+    /// The struct of an expression that was taken apart, which leaves its place; nothing if it is of another kind.
+    fn of(taken: &mut Taken) -> Option<Self>
+        ensures { (x : Expr) → taken.old ≡ taken_of x → IsStruct tree is x result };
+}
+
+/// The struct of an expression of a kind. One of another kind is dropped.
+pub(crate) fn struct_of<S: Kind>(x: Expr) -> Option<S>
+    ensures { IsStruct S.tree S.is x result }
+{
+    let mut taken = x.taken();
+    S::of(&mut taken)
 }
 
 impl Kind for ExprArray {
@@ -36,11 +44,8 @@ impl Kind for ExprArray {
 
     ghost is = { is_array };
 
-    fn of(x: Expr) -> std::result::Result<Self, Expr> {
-        match x.node() {
-            Node::Array(x) => Ok(x),
-            x => Err(x.into_expr()),
-        }
+    fn of(taken: &mut Taken) -> Option<Self> {
+        taken.array.take()
     }
 }
 
@@ -53,11 +58,8 @@ impl Kind for ExprAssign {
 
     ghost is = { is_assign };
 
-    fn of(x: Expr) -> std::result::Result<Self, Expr> {
-        match x.node() {
-            Node::Assign(x) => Ok(x),
-            x => Err(x.into_expr()),
-        }
+    fn of(taken: &mut Taken) -> Option<Self> {
+        taken.assign.take()
     }
 }
 
@@ -70,11 +72,8 @@ impl Kind for ExprAwait {
 
     ghost is = { is_await };
 
-    fn of(x: Expr) -> std::result::Result<Self, Expr> {
-        match x.node() {
-            Node::Await(x) => Ok(x),
-            x => Err(x.into_expr()),
-        }
+    fn of(taken: &mut Taken) -> Option<Self> {
+        taken.await_expr.take()
     }
 }
 
@@ -87,11 +86,8 @@ impl Kind for ExprBinary {
 
     ghost is = { is_binary };
 
-    fn of(x: Expr) -> std::result::Result<Self, Expr> {
-        match x.node() {
-            Node::Binary(x) => Ok(x),
-            x => Err(x.into_expr()),
-        }
+    fn of(taken: &mut Taken) -> Option<Self> {
+        taken.binary.take()
     }
 }
 
@@ -104,11 +100,8 @@ impl Kind for ExprBreak {
 
     ghost is = { is_break };
 
-    fn of(x: Expr) -> std::result::Result<Self, Expr> {
-        match x.node() {
-            Node::Break(x) => Ok(x),
-            x => Err(x.into_expr()),
-        }
+    fn of(taken: &mut Taken) -> Option<Self> {
+        taken.break_expr.take()
     }
 }
 
@@ -121,11 +114,8 @@ impl Kind for ExprCall {
 
     ghost is = { is_call };
 
-    fn of(x: Expr) -> std::result::Result<Self, Expr> {
-        match x.node() {
-            Node::Call(x) => Ok(x),
-            x => Err(x.into_expr()),
-        }
+    fn of(taken: &mut Taken) -> Option<Self> {
+        taken.call.take()
     }
 }
 
@@ -138,11 +128,8 @@ impl Kind for ExprCast {
 
     ghost is = { is_cast };
 
-    fn of(x: Expr) -> std::result::Result<Self, Expr> {
-        match x.node() {
-            Node::Cast(x) => Ok(x),
-            x => Err(x.into_expr()),
-        }
+    fn of(taken: &mut Taken) -> Option<Self> {
+        taken.cast.take()
     }
 }
 
@@ -154,11 +141,8 @@ impl Kind for ExprClosure {
 
     ghost is = { is_closure };
 
-    fn of(x: Expr) -> std::result::Result<Self, Expr> {
-        match x.node() {
-            Node::Closure(x) => Ok(x),
-            x => Err(x.into_expr()),
-        }
+    fn of(taken: &mut Taken) -> Option<Self> {
+        taken.closure.take()
     }
 }
 
@@ -171,11 +155,8 @@ impl Kind for ExprField {
 
     ghost is = { is_field };
 
-    fn of(x: Expr) -> std::result::Result<Self, Expr> {
-        match x.node() {
-            Node::Field(x) => Ok(x),
-            x => Err(x.into_expr()),
-        }
+    fn of(taken: &mut Taken) -> Option<Self> {
+        taken.field.take()
     }
 }
 
@@ -187,11 +168,8 @@ impl Kind for ExprForLoop {
 
     ghost is = { is_for_loop };
 
-    fn of(x: Expr) -> std::result::Result<Self, Expr> {
-        match x.node() {
-            Node::ForLoop(x) => Ok(x),
-            x => Err(x.into_expr()),
-        }
+    fn of(taken: &mut Taken) -> Option<Self> {
+        taken.for_loop.take()
     }
 }
 
@@ -204,11 +182,8 @@ impl Kind for ExprIf {
 
     ghost is = { is_if_expr };
 
-    fn of(x: Expr) -> std::result::Result<Self, Expr> {
-        match x.node() {
-            Node::If(x) => Ok(x),
-            x => Err(x.into_expr()),
-        }
+    fn of(taken: &mut Taken) -> Option<Self> {
+        taken.if_expr.take()
     }
 }
 
@@ -221,11 +196,8 @@ impl Kind for ExprIndex {
 
     ghost is = { is_index };
 
-    fn of(x: Expr) -> std::result::Result<Self, Expr> {
-        match x.node() {
-            Node::Index(x) => Ok(x),
-            x => Err(x.into_expr()),
-        }
+    fn of(taken: &mut Taken) -> Option<Self> {
+        taken.index.take()
     }
 }
 
@@ -237,11 +209,8 @@ impl Kind for ExprLet {
 
     ghost is = { is_let };
 
-    fn of(x: Expr) -> std::result::Result<Self, Expr> {
-        match x.node() {
-            Node::Let(x) => Ok(x),
-            x => Err(x.into_expr()),
-        }
+    fn of(taken: &mut Taken) -> Option<Self> {
+        taken.let_expr.take()
     }
 }
 
@@ -253,11 +222,8 @@ impl Kind for ExprMatch {
 
     ghost is = { is_match };
 
-    fn of(x: Expr) -> std::result::Result<Self, Expr> {
-        match x.node() {
-            Node::Match(x) => Ok(x),
-            x => Err(x.into_expr()),
-        }
+    fn of(taken: &mut Taken) -> Option<Self> {
+        taken.match_expr.take()
     }
 }
 
@@ -270,11 +236,8 @@ impl Kind for ExprMethodCall {
 
     ghost is = { is_method_call };
 
-    fn of(x: Expr) -> std::result::Result<Self, Expr> {
-        match x.node() {
-            Node::MethodCall(x) => Ok(x),
-            x => Err(x.into_expr()),
-        }
+    fn of(taken: &mut Taken) -> Option<Self> {
+        taken.method_call.take()
     }
 }
 
@@ -287,11 +250,8 @@ impl Kind for ExprParen {
 
     ghost is = { is_paren };
 
-    fn of(x: Expr) -> std::result::Result<Self, Expr> {
-        match x.node() {
-            Node::Paren(x) => Ok(x),
-            x => Err(x.into_expr()),
-        }
+    fn of(taken: &mut Taken) -> Option<Self> {
+        taken.paren.take()
     }
 }
 
@@ -304,11 +264,8 @@ impl Kind for ExprRange {
 
     ghost is = { is_range };
 
-    fn of(x: Expr) -> std::result::Result<Self, Expr> {
-        match x.node() {
-            Node::Range(x) => Ok(x),
-            x => Err(x.into_expr()),
-        }
+    fn of(taken: &mut Taken) -> Option<Self> {
+        taken.range.take()
     }
 }
 
@@ -321,11 +278,8 @@ impl Kind for ExprRawAddr {
 
     ghost is = { is_raw_addr };
 
-    fn of(x: Expr) -> std::result::Result<Self, Expr> {
-        match x.node() {
-            Node::RawAddr(x) => Ok(x),
-            x => Err(x.into_expr()),
-        }
+    fn of(taken: &mut Taken) -> Option<Self> {
+        taken.raw_addr.take()
     }
 }
 
@@ -338,11 +292,8 @@ impl Kind for ExprRepeat {
 
     ghost is = { is_repeat };
 
-    fn of(x: Expr) -> std::result::Result<Self, Expr> {
-        match x.node() {
-            Node::Repeat(x) => Ok(x),
-            x => Err(x.into_expr()),
-        }
+    fn of(taken: &mut Taken) -> Option<Self> {
+        taken.repeat.take()
     }
 }
 
@@ -355,11 +306,8 @@ impl Kind for ExprReturn {
 
     ghost is = { is_return };
 
-    fn of(x: Expr) -> std::result::Result<Self, Expr> {
-        match x.node() {
-            Node::Return(x) => Ok(x),
-            x => Err(x.into_expr()),
-        }
+    fn of(taken: &mut Taken) -> Option<Self> {
+        taken.return_expr.take()
     }
 }
 
@@ -372,11 +320,8 @@ impl Kind for ExprTry {
 
     ghost is = { is_try };
 
-    fn of(x: Expr) -> std::result::Result<Self, Expr> {
-        match x.node() {
-            Node::Try(x) => Ok(x),
-            x => Err(x.into_expr()),
-        }
+    fn of(taken: &mut Taken) -> Option<Self> {
+        taken.try_expr.take()
     }
 }
 
@@ -389,11 +334,8 @@ impl Kind for ExprTuple {
 
     ghost is = { is_tuple };
 
-    fn of(x: Expr) -> std::result::Result<Self, Expr> {
-        match x.node() {
-            Node::Tuple(x) => Ok(x),
-            x => Err(x.into_expr()),
-        }
+    fn of(taken: &mut Taken) -> Option<Self> {
+        taken.tuple.take()
     }
 }
 
@@ -406,11 +348,8 @@ impl Kind for ExprUnary {
 
     ghost is = { is_unary };
 
-    fn of(x: Expr) -> std::result::Result<Self, Expr> {
-        match x.node() {
-            Node::Unary(x) => Ok(x),
-            x => Err(x.into_expr()),
-        }
+    fn of(taken: &mut Taken) -> Option<Self> {
+        taken.unary.take()
     }
 }
 
@@ -423,11 +362,8 @@ impl Kind for ExprWhile {
 
     ghost is = { is_while };
 
-    fn of(x: Expr) -> std::result::Result<Self, Expr> {
-        match x.node() {
-            Node::While(x) => Ok(x),
-            x => Err(x.into_expr()),
-        }
+    fn of(taken: &mut Taken) -> Option<Self> {
+        taken.while_expr.take()
     }
 }
 
@@ -440,10 +376,7 @@ impl Kind for ExprYield {
 
     ghost is = { is_yield };
 
-    fn of(x: Expr) -> std::result::Result<Self, Expr> {
-        match x.node() {
-            Node::Yield(x) => Ok(x),
-            x => Err(x.into_expr()),
-        }
+    fn of(taken: &mut Taken) -> Option<Self> {
+        taken.yield_expr.take()
     }
 }

@@ -16,19 +16,19 @@ returns-in-Err-clause-others g c =
     others_none g.row.S.Denot g.S.Kind.is c.args.wanted c.args.input.now _ c.refusal.result c.in_ok-ahead.ensures.value
     (λ ne. c.in-Err.ensures.value (λ m. ne (c.refusal.ensures.memory m)))
 
-pub returns-in-Ok-of-clause-exact : goal.returns-in-Ok-of-clause-exact
-returns-in-Ok-of-clause-exact g c =
+pub returns-in-Some-clause-exact : goal.returns-in-Some-clause-exact
+returns-in-Some-clause-exact g c =
     reads_ahead (kind_exact g.S.Kind.is) _ _ _ _ c.in_ok-ahead.ensures.value
     (rw c.advance_to.ensures.rest (kind_found g.S.Kind.is _ _ (tree_of c.ungrouped.result) _ _ c.in-Ok.ensures.value
-    (c.ungrouped.ensures ∙ ap (λ x. ungrouped (tree_of x)) c.into_inner.ensures) c.in-Ok-of.ensures.1 c.in-Ok-of.ensures.0)) (search rules)
+    (c.ungrouped.ensures ∙ ap (λ x. ungrouped (tree_of x)) c.into_inner.ensures) c.in-Some.ensures.1 c.in-Some.ensures.0)) (search rules)
 
-pub returns-in-Ok-of-clause-others : goal.returns-in-Ok-of-clause-others
-returns-in-Ok-of-clause-others g c =
-    others_read g.row.S.Denot g.S.Kind.is c.args.wanted c.args.input.now _ c.in-Ok-of.x _ (tree_of c.ungrouped.result) _ c.in_ok-ahead.ensures.value c.in-Ok.ensures.value
-    (c.ungrouped.ensures ∙ ap (λ x. ungrouped (tree_of x)) c.into_inner.ensures) c.in-Ok-of.ensures.1
+pub returns-in-Some-clause-others : goal.returns-in-Some-clause-others
+returns-in-Some-clause-others g c =
+    others_read g.row.S.Denot g.S.Kind.is c.args.wanted c.args.input.now _ c.in-Some.x _ (tree_of c.ungrouped.result) _ c.in_ok-ahead.ensures.value c.in-Ok.ensures.value
+    (c.ungrouped.ensures ∙ ap (λ x. ungrouped (tree_of x)) c.into_inner.ensures) c.in-Some.ensures.1
 
-pub returns-in-Err-of-clause-exact : goal.returns-in-Err-of-clause-exact
-returns-in-Err-of-clause-exact g c =
+pub returns-in-None-clause-exact : goal.returns-in-None-clause-exact
+returns-in-None-clause-exact g c =
     refuses_ahead (kind_exact g.S.Kind.is) _ _ _ c.in_ok-ahead.ensures.value
     (λ ne. kind_other g.S.Kind.is _ _ (tree_of c.ungrouped.result) _ c.in-Ok.ensures.value
-    (c.ungrouped.ensures ∙ ap (λ x. ungrouped (tree_of x)) c.into_inner.ensures) c.in-Err-of.ensures)
+    (c.ungrouped.ensures ∙ ap (λ x. ungrouped (tree_of x)) c.into_inner.ensures) c.in-None.ensures)
