@@ -67,6 +67,7 @@ fn of_expr(alloc: Global, name: &str, of: &str, expr: &mut Expr, more: &str) -> 
     match name {
         "tree" | "flat" => trees::described(alloc, expr),
         "debug" => trees::debug(alloc, expr),
+        "tidy" => trees::tidied(alloc, of, expr),
         "operand" => places::operand(alloc, of, expr),
         "place" | "condition" => places::place(alloc, name, of, expr),
         "asked" => places::asked(alloc, expr),

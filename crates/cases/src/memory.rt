@@ -11,7 +11,7 @@ use std::mem::swap;
 use syn_expr::{
     Arm, Expr, FieldPat, FieldPatKind, FieldValue, HeldExpr, Parse, ParseBuffer, Pat, Position,
     Result, ToTokens, TokenStream, dump, expr_to_text, flatten_in_place, lex, parse_str, parse2,
-    print_counted, print_expr, read_back, read_back_before, to_text,
+    print_counted, print_expr, read_back, read_back_before, tidy_text, to_text,
 };
 
 /// The expression that a list begins with, by the reader of a name, or by that of the position of a name.
@@ -140,6 +140,7 @@ pub fn of_expr(alloc: Global, name: &str, of: &str, expr: &mut Expr, more: &str)
         "print_expr" => put_by(alloc, |tokens| print_expr(expr, tokens, position.fixup())),
         "print_counted" => to_text(&print_counted(alloc, expr, position.fixup())?.0),
         "expr_to_text" => expr_to_text(alloc, expr, position),
+        "tidy_text" => tidy_text(alloc, expr, position),
         "read_back" => put_read(alloc, read_back(alloc, expr)),
         "read_back_before" => {
             let more = lex(alloc, more)?;

@@ -4,7 +4,9 @@ use exprfmt_run::run::named;
 use rows::groups::{printed, text_of, then, tokens_of, whole};
 use rows::{are_equal, with, words};
 use std::alloc::Global;
-use syn_expr::{Expr, ParseBuffer, Position, Result, Spanned, flatten};
+use syn_expr::{
+    Expr, ParseBuffer, Position, Result, Spanned, expr_to_text, flatten, parse_str, tidy_text,
+};
 
 /// An expression that was read, without its parentheses.
 pub fn flattened(read: Result<Expr>) -> Result<Expr> {
@@ -62,6 +64,20 @@ pub fn stops(alloc: Global, position: &str, texts: &str) -> Result<String> {
 /// What `Debug` shows of an expression.
 pub fn debug(alloc: Global, expr: &Expr) -> Result<String> {
     Ok(format!(in alloc; "{expr:?}")?)
+}
+
+/// The tidy text of an expression in a position, if this text is read as what is printed of the expression.
+pub fn tidied(alloc: Global, position: &str, expr: &Expr) -> Result<String> {
+    let position = named(position).unwrap_or(Position::Plain);
+    let printed = expr_to_text(alloc, expr, position)?;
+    let text = tidy_text(alloc, expr, position)?;
+    let read = parse_str::<Expr>(alloc, text.as_str());
+    let again = with(read, |read| expr_to_text(alloc, read, position))?;
+    if again.as_str() == printed.as_str() {
+        Ok(text)
+    } else {
+        words(alloc, "another tree")
+    }
 }
 
 /// Where an expression is.

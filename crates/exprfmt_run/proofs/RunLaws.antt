@@ -89,7 +89,7 @@ pub line_is : (s : Position) (bare : Bool) (cs : List ℕ) (t u : Tree) (ts : Li
     → PrintedAs s u ts → bytes ≡ text ts ++ 10 ∷ [] → IsLine s bare cs bytes
 line_is s bare cs t u ts bytes stands same is written = (ts, (t, stands, subst (λ (v : Tree). PrintedAs s v ts) same is), written)
 
--- ---- what is printed of it once more
+-- ---- a printed line, read and printed again
 
 -- what is before the line feed is UTF-8 too
 before_line_feed : (xs bytes : List ℕ) → bytes ≡ xs ++ 10 ∷ [] → IsUtf8 bytes → IsUtf8 xs

@@ -11,6 +11,6 @@ unfolding IsFlat
 bare_meant true t u e flat = flat
 bare_meant false t u e flat = absurd cc
 
-pub line_is : (dump : Bool) (s : Position) (bare : Bool) (cs : List ℕ) (t u : Tree) (kind : ℕ) (bytes : List ℕ) → StandsFor cs t → kind ≡ kind_of t → u ≡ meant bare t
-    → IsLineOf dump s u bytes → IsLine dump s bare cs kind bytes
-line_is dump s bare cs t u kind bytes stands same_kind same line = (t, stands, same_kind, subst (λ (v : Tree). IsLineOf dump s v bytes) same line)
+pub line_is : (dump tidy : Bool) (s : Position) (bare : Bool) (cs : List ℕ) (t u : Tree) (kind : ℕ) (bytes : List ℕ) → StandsFor cs t → kind ≡ kind_of t → u ≡ meant bare t
+    → IsLineOf dump tidy s u bytes → IsLine dump tidy s bare cs kind bytes
+line_is dump tidy s bare cs t u kind bytes stands same_kind same line = (t, stands, same_kind, subst (λ (v : Tree). IsLineOf dump tidy s v bytes) same line)

@@ -116,7 +116,7 @@ pub writes_blank : (src : Source) (n : ℕ) (part : List ℕ) (a x : Option (Lis
 writes_blank src n part a x ns h = (blank, h, refl, appends_none a, appends_none x, refl)
 
 pub writes_line : (src : Source) (n : ℕ) (part : List ℕ) (kind : ℕ) (bytes text : List ℕ) (a b x : Option (List ℕ)) (ns ms : List ℕ) → text ≡ bytes
-    → IsLine src.dump src.position src.bare (chars part) kind bytes → Appends a b (line_unless src.kinds text) → ms ≡ counted kind ns
+    → IsLine src.dump src.tidy src.position src.bare (chars part) kind bytes → Appends a b (line_unless src.kinds text) → ms ≡ counted kind ns
     → Writes src n part true (room (writer a b) (writer x x) ns ms)
 writes_line src n part kind bytes text a b x ns ms same is wrote tally =
     (printed kind bytes, is, refl, subst (λ l. Appends a b (line_unless src.kinds l)) same wrote, appends_none x, tally)

@@ -85,6 +85,7 @@ pub record Source : Type 0 where
   pub position : Position
   pub bare : Bool
   pub dump : Bool
+  pub tidy : Bool
   pub kinds : Bool
   pub separator : List ℕ
   pub name : List ℕ
@@ -110,7 +111,7 @@ CutBy sep bytes (p ∷ q ∷ more) = (rest : List ℕ) × CutsFirst sep bytes p 
 -- An expression is refused only where none stands, unless memory runs out.
 abbrev pub Follows : Source → List ℕ → Outcome → Type 0
 Follows src part blank = trim part ≡ []
-Follows src part (printed kind line) = IsLine src.dump src.position src.bare (chars part) kind line
+Follows src part (printed kind line) = IsLine src.dump src.tidy src.position src.bare (chars part) kind line
 Follows src part (refused e further) = AreFurther further × ((e.kind ≡ OutOfMemory) ⊎ NothingStands (chars part))
 
 -- a part with so many lines before it, and what becomes of it

@@ -2,7 +2,7 @@
 use Rattle.std.specs.Prelude.{◌≡◌, ℕ, Bool, true, false, List, [], ◌∷◌, ◌++◌}
 pub use Rattle.syn_expr_spec.specs.Printed.{Position}
 use Rattle.syn_expr_spec.specs.Tree.{Tree, flatten}
-use Rattle.syn_expr.specs.Promises.{IsTextOf}
+use Rattle.syn_expr.specs.Promises.{IsTextOf, IsLaidOut}
 use Rattle.syn_expr.specs.Texts.{StandsFor}
 use Rattle.exprs.specs.Kinds.{kind_of}
 
@@ -15,11 +15,16 @@ meant true t = flatten t
 abbrev pub IsPrinted : Position → Tree → List ℕ → Type 0
 IsPrinted s t bytes = (cs : List ℕ) × IsTextOf s t cs × (bytes ≡ cs ++ 10 ∷ [])
 
--- The same, unless the tree is shown: of what is written then nothing is promised.
-abbrev pub IsLineOf : Bool → Position → Tree → List ℕ → Type 0
-IsLineOf false s t bytes = IsPrinted s t bytes
-IsLineOf true s t bytes = Unit {0}
+-- a layout of what is printed of a tree in the position, and a newline after it
+abbrev pub IsTidied : Position → Tree → List ℕ → Type 0
+IsTidied s t bytes = (cs : List ℕ) × IsLaidOut s t cs × (bytes ≡ cs ++ 10 ∷ [])
+
+-- One of these, unless the tree is shown: of what is written then nothing is promised.
+abbrev pub IsLineOf : Bool → Bool → Position → Tree → List ℕ → Type 0
+IsLineOf false false s t bytes = IsPrinted s t bytes
+IsLineOf false true s t bytes = IsTidied s t bytes
+IsLineOf true tidy s t bytes = Unit {0}
 
 -- A tree of this kind stands for the text, and this is its line: that of the tree, or of it without its parentheses.
-abbrev pub IsLine : Bool → Position → Bool → List ℕ → ℕ → List ℕ → Type 0
-IsLine dump s bare cs kind bytes = (t : Tree) × StandsFor cs t × (kind ≡ kind_of t) × IsLineOf dump s (meant bare t) bytes
+abbrev pub IsLine : Bool → Bool → Position → Bool → List ℕ → ℕ → List ℕ → Type 0
+IsLine dump tidy s bare cs kind bytes = (t : Tree) × StandsFor cs t × (kind ≡ kind_of t) × IsLineOf dump tidy s (meant bare t) bytes

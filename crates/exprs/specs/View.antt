@@ -9,6 +9,7 @@ source_of settings name bytes = record {
   position = position_of settings.position;
   bare = settings.bare;
   dump = settings.dump;
+  tidy = settings.tidy;
   kinds = settings.kinds;
   separator = separator settings.blocks;
   name = name;

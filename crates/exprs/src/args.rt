@@ -18,6 +18,8 @@ pub struct Settings {
     pub blocks: bool,
     /// Whether each is shown as a tree, and not printed.
     pub dump: bool,
+    /// Whether each is printed with the white space that people write. It changes nothing where `dump` is set.
+    pub tidy: bool,
     /// Whether the counts of kinds are printed, and not the expressions.
     pub kinds: bool,
 }
@@ -32,6 +34,7 @@ impl Settings {
             bare: false,
             blocks: false,
             dump: false,
+            tidy: false,
             kinds: false,
         }
     }
@@ -49,6 +52,7 @@ impl Settings {
             Setting::Bare => settings.bare = true,
             Setting::Blocks => settings.blocks = true,
             Setting::Dump => settings.dump = true,
+            Setting::Tidy => settings.tidy = true,
             Setting::Kinds => settings.kinds = true,
         }
         settings
@@ -72,6 +76,8 @@ pub enum Setting {
     Blocks,
     /// Each is shown as a tree.
     Dump,
+    /// Each is printed as people write it.
+    Tidy,
     /// Their kinds are counted.
     Kinds,
 }
@@ -89,6 +95,7 @@ fn named(word: &str) -> Option<Setting>
         "--bare" => Some(Setting::Bare),
         "--blocks" => Some(Setting::Blocks),
         "--dump" => Some(Setting::Dump),
+        "--tidy" => Some(Setting::Tidy),
         "--kinds" => Some(Setting::Kinds),
         _ => None,
     }

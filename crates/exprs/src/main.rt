@@ -34,6 +34,7 @@ that it needs. Without FILE, or where FILE is -, standard input is read.
   --bare     without the parentheses that it has; those alone are printed that it needs
   --blocks   an expression may have several lines, and ends before a blank one
   --dump     shows each as its tree, and does not print it
+  --tidy     with the white space that people write: a.b(&x)? and not a . b (& x) ?
   --kinds    counts the kinds of the expressions, and prints these counts alone
   --help     says this
   --version  says which version it is

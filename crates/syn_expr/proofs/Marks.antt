@@ -1,10 +1,7 @@
 -- Marks play no part in what is printed.
-use Rattle.std.proofs.Common.{◌≡◌, Bool, true, false, not, ◌&&◌, List, [], ◌∷◌, refl, sym, ◌∙◌, ap}
+use Rattle.std.proofs.Common.{◌≡◌, Bool, true, false, not, ◌&&◌, List, [], refl, sym, ◌∙◌, ap}
 use Rattle.std.specs.Prelude.{if◌then◌else◌}
-use Rattle.syn_lexer.specs.declared.front.Delimiter.TheVariants as del
 use Rattle.syn_tokens.specs.Tok.{Tok}
-use Rattle.syn_lower_spec.specs.Own as o
-use Rattle.syn_lower_spec.specs.PatOwn.{attributes_own}
 use Rattle.syn_expr_spec.specs.declared.kinds.Infix.{Infix}
 use Rattle.syn_expr_spec.specs.declared.kinds.Precedence.{Precedence}
 use Rattle.syn_expr_spec.specs.declared.kinds.Precedence.TheVariants as lev
@@ -16,34 +13,16 @@ use Rattle.syn_expr_spec.specs.Summaries.{summary_of, attributed_summary, prefix
 use Rattle.syn_expr_spec.specs.Op.{level}
 use Rattle.syn_expr_spec.specs.Rule.{is_operation, put, piece_put, bare, bare_children, place_asks, left_asks, base_asks, prefix_asks, is_chainable, is_plain_block, chained_bare}
 use Rattle.syn_expr_spec.specs.Tree as e
-use Rattle.syn_expr_spec.specs.Tree.{Tree, Children, Prefix, Trailer, Piece, leaf, paren, attributed, prefixed, infixed, postfixed, tail, frame, none, child, outers, own, children_own, own_tokens, clear, clear_children, plain_block, postfix_op, is_silent, prefix_own, infix_own, postfix_own, trailer_own, framed, enclosure, behind_operands, inside_of, ending_own, piece_own}
+use Rattle.syn_expr_spec.specs.Tree.{Tree, Children, Prefix, Trailer, Piece, leaf, paren, attributed, prefixed, infixed, postfixed, tail, frame, none, child, own, own_tokens, clear, clear_children, plain_block, postfix_op}
 use Rattle.syn_expr_spec.proofs.SummaryLemmas.{summaries_are_right}
 use Rattle.syn_expr_spec.proofs.Unclear.{operation_clear}
 use Rattle.syn_expr_spec.proofs.Parenthesized.{same_infix, same_tail, same_child}
+use Rattle.syn_text_spec.proofs.Twice.{own_clear}
 
 -- ---- nodes of equal parts
 
 same_prefix : (k : Prefix) (gs gs' : Children) (t t' : Tree) → gs ≡ gs' → t ≡ t' → prefixed k gs t ≡ prefixed k gs' t'
 same_prefix k gs gs' t t' p q = cc
-
--- ---- own tokens
-
-mutual
-  pub own_clear : (t : Tree) (r : List Tok) → own (clear t) r ≡ own t r
-  own_clear (leaf k) r = refl
-  own_clear (paren m t) r = ap (λ (l : List Tok). o.enclosed del.Parenthesis l r) (own_clear t [])
-  own_clear (attributed a more t) r = ap (attributes_own (outers (a ∷ more))) (own_clear t r)
-  own_clear (prefixed k gs t) r = ap (prefix_own k) (own_clear t r)
-  own_clear (infixed x k y) r = own_clear x (infix_own k (own (clear y) r)) ∙ ap (λ (l : List Tok). own x (infix_own k l)) (own_clear y r)
-  own_clear (postfixed x k) r = own_clear x (postfix_own k r)
-  own_clear (tail b k ks) r = own_clear b (trailer_own k (children_own (clear_children ks) []) r) ∙ ap (λ (l : List Tok). own b (trailer_own k l r)) (own_clear_children ks [])
-  own_clear (frame k ks) r = ap (λ (l : List Tok). framed k (enclosure k) l r) (own_clear_children ks (behind_operands (enclosure k) r))
-
-  own_clear_children : (ks : Children) (r : List Tok) → children_own (clear_children ks) r ≡ children_own ks r
-  own_clear_children none r = refl
-  own_clear_children (child k c t ks) r =
-      ap (λ (l : List Tok). piece_own k (if is_silent k then ending_own k c l r else own (clear t) (ending_own k c l r))) (own_clear_children ks (inside_of c r))
-      ∙ ap (λ (l : List Tok). piece_own k (if is_silent k then ending_own k c (children_own ks (inside_of c r)) r else l)) (own_clear t (ending_own k c (children_own ks (inside_of c r)) r))
 
 -- ---- trees
 

@@ -1,19 +1,23 @@
 -- What is printed of a tree in a position keeps all that is promised.
-use Rattle.std.proofs.Common.{◌≡◌, ◌↔◌, true, List, [], ◌++◌, refl, sym, ◌∙◌, ap, subst, Result, Ok, Err, string_bytes}
+use Rattle.std.proofs.Common.{◌≡◌, ◌↔◌, true, ℕ, List, [], ◌++◌, refl, sym, ◌∙◌, ap, subst, Result, Ok, Err, string_bytes, chars}
 use Rattle.std.specs.Prelude.{IfOk, MatchResult, String}
 use Rattle.std.specs.declared.alloc.Global.{Global}
+use Rattle.syn_tokens.specs.Lex.{Spells}
 use Rattle.syn_tokens.specs.Text.{text}
 use Rattle.syn_tokens.specs.Tok.{Tok}
 use Rattle.syn_tokens.specs.declared.error.Error.{Error}
 use Rattle.syn_tokens.specs.declared.error.ErrorKind.TheVariants.{OutOfMemory}
+use Rattle.syn_tokens.proofs.Lexes.{one_reading}
 use Rattle.syn_expr_spec.specs.declared.next.Context.{Context}
 use Rattle.syn_expr_spec.specs.Next.{enclosed}
+use Rattle.syn_expr_spec.specs.Place.{plain}
 use Rattle.syn_expr_spec.specs.Printed.{Position, in_plain, as_statement, as_condition, as_arm, context_of, place_of, allows, is_minimal, plainly_attributed, printed_in}
 use Rattle.syn_expr_spec.specs.Rule.{printed}
 use Rattle.syn_expr_spec.specs.Stands.{Stands}
 use Rattle.syn_expr_spec.specs.Tree.{Tree, own, own_tokens, clear, fill}
 use Rattle.syn_expr_spec.specs.WellFormed.{is_well_formed}
 use Rattle.syn_expr_spec.proofs.Added.{pairs_are_added}
+use Rattle.syn_expr_spec.proofs.Exact.{at_most_one}
 use Rattle.syn_expr_spec.proofs.FillIns.{plainly_fill}
 use Rattle.syn_expr_spec.proofs.Flat.{flatten_clear}
 use Rattle.syn_expr_spec.proofs.NoneRedundant.{bare_there}
@@ -23,11 +27,15 @@ use Rattle.syn_expr_spec.proofs.RedundantPlain.{no_pair_redundant, plain_clear}
 use Rattle.syn_expr_spec.proofs.StoodFilled.{own_spelling}
 use Rattle.syn_expr_ast.specs.Printed.{whole}
 use Rattle.syn_expr_print.proofs.Appends.{own_append}
+use Rattle.syn_text.specs.Lexed.{is_lexed}
 use Rattle.syn_text_spec.specs.Laws.{IsStable, unchanged}
 use Rattle.syn_text_spec.specs.Leaves.{leaves_lexed}
+use Rattle.syn_text_spec.proofs.ReadBack.{printed_is_lexed}
 use Rattle.syn_text_spec.proofs.Stable.{made_text}
-use Rattle.syn_expr.specs.Promises.{Puts, StandsBack, StandsWithPairs, IsOwn, IsMinimal, IsTextOf, PrintedAs}
-use Rattle.syn_expr.proofs.Marks.{own_clear, clear_twice, put_clear}
+use Rattle.syn_text_spec.proofs.Twice.{own_clear, own_twice, stands_alone}
+use Rattle.syn_tidy.specs.Layout.{IsLayout}
+use Rattle.syn_expr.specs.Promises.{Puts, StandsBack, StandsWithPairs, IsOwn, IsMinimal, IsTextOf, IsLaidOut, IsLaidOutAgain, PrintedAs}
+use Rattle.syn_expr.proofs.Marks.{clear_twice, put_clear}
 
 pub stands_back : (s : Position) (t : Tree) → StandsBack s t (own_tokens (printed_in s t))
 stands_back s t w = (
@@ -112,3 +120,39 @@ pub is_stable : (s : Position) (t : Tree) (ts : List Tok) (r : Result (String Gl
     → IfOk r (λ x. is_well_formed t ≡ true → leaves_lexed t ≡ true → IsStable unchanged s t (string_bytes x))
 is_stable s t ts (Ok x) printed is = λ well leaves. made_text s t ts (string_bytes x) printed.tokens is well leaves
 is_stable s t ts (Err e) printed is = tt
+
+-- ---- of a layout of the printed tokens
+
+pub is_laid_out : (s : Position) (t : Tree) (ts : List Tok) (r : Result (String Global) Error) → PrintedAs s t ts → IfOk r (λ x. IsLayout ts (chars (string_bytes x)))
+    → IfOk r (λ x. IsLaidOut s t (string_bytes x))
+is_laid_out s t ts (Ok x) printed is = (ts, printed, is)
+is_laid_out s t ts (Err e) printed is = tt
+
+-- a text that falls into the tokens which are printed of a well-formed tree
+laid_again : (s : Position) (t : Tree) (bytes : List ℕ) → is_well_formed t ≡ true → IsLayout (own_tokens (printed_in s t)) (chars bytes)
+    → Spells (chars bytes) (own_tokens (printed_in s t)) → IsLaidOutAgain s t bytes
+laid_again s t bytes well layout falls =
+    let ts = own_tokens (printed_in s t) in
+    let x = clear (printed_in s t) in
+    let stands : Stands plain ts x [] = stands_alone s t well in (
+      x,
+      flatten_clear (printed_in s t) ∙ printed_is_same (context_of s) t well,
+      (ts, falls, stands),
+      (λ y n read.
+          let same : read.0 ≡ ts = one_reading (chars bytes) read.0 ts read.1 falls in
+          at_most_one plain ts y x n [] (subst (λ us. Stands plain us y n) same read.2) stands),
+      subst (λ (us : List Tok). IsLayout us (chars bytes)) (sym (own_twice s t [] well)) layout,
+    )
+
+laid_by : (s : Position) (t : Tree) (ts : List Tok) (bytes : List ℕ) → ts ≡ own_tokens (printed_in s t) → IsLayout ts (chars bytes)
+    → (is_lexed ts ≡ true → Spells (chars bytes) ts) → is_well_formed t ≡ true → leaves_lexed t ≡ true → IsLaidOutAgain s t bytes
+laid_by s t ts bytes made layout falls well leaves =
+    let lexed : is_lexed ts ≡ true = ap is_lexed made ∙ printed_is_lexed s t [] leaves refl in
+    laid_again s t bytes well (subst (λ (us : List Tok). IsLayout us (chars bytes)) made layout) (subst (λ (us : List Tok). Spells (chars bytes) us) made (falls lexed))
+
+-- the text is read again, and lays out what is printed again
+pub is_read_again : (s : Position) (t : Tree) (ts : List Tok) (r : Result (String Global) Error) → PrintedAs s t ts → IfOk r (λ x. IsLayout ts (chars (string_bytes x)))
+    → IfOk r (λ x. is_lexed ts ≡ true → Spells (chars (string_bytes x)) ts)
+    → IfOk r (λ x. is_well_formed t ≡ true → leaves_lexed t ≡ true → IsLaidOutAgain s t (string_bytes x))
+is_read_again s t ts (Ok x) printed is falls = λ well leaves. laid_by s t ts (string_bytes x) printed.tokens is falls well leaves
+is_read_again s t ts (Err e) printed is falls = tt

@@ -24,5 +24,5 @@ pub use Rattle.syn_expr_ast.specs.declared.trailer.ExprMethodCallOf.{ExprMethodC
 pub use Rattle.syn_expr_core.specs.View.{tree_of}
 pub use Rattle.syn_expr_core.specs.declared.expr.Expr.{Expr}
 pub use Rattle.syn_expr_flatten.specs.Flat.{IsFlat}
-pub use Rattle.syn_expr.specs.Promises.{IsTextOf}
+pub use Rattle.syn_expr.specs.Promises.{IsTextOf, IsLaidOut}
 pub use Rattle.syn_expr.specs.Texts.{StandsFor, NothingStands}

@@ -1,5 +1,5 @@
 -- What is promised of the tokens that are printed of a tree.
-use Rattle.std.specs.Prelude.{◌≡◌, ◌↔◌, ◌++◌, true, ℕ, List, []}
+use Rattle.std.specs.Prelude.{◌≡◌, ◌↔◌, ◌++◌, true, ℕ, List, [], chars}
 use Rattle.syn_tokens.specs.Text.{text}
 use Rattle.syn_tokens.specs.Tok.{Tok}
 use Rattle.syn_expr_spec.specs.Place.{plain}
@@ -8,6 +8,8 @@ use Rattle.syn_expr_spec.specs.Minimal.{OneLess, without_added}
 use Rattle.syn_expr_spec.specs.Stands.{Stands}
 use Rattle.syn_expr_spec.specs.Tree.{Tree, own, own_tokens, clear, fill, IsSameTree}
 use Rattle.syn_expr_spec.specs.WellFormed.{is_well_formed}
+use Rattle.syn_text_spec.specs.Laws.{IsReadAs}
+use Rattle.syn_tidy.specs.Layout.{IsLayout}
 
 -- what was put after the old tokens
 abbrev pub Puts : List Tok → List Tok → (List Tok → Type 0) → Type 0
@@ -56,3 +58,14 @@ pub record PrintedAs (s : Position) (t : Tree) (ts : List Tok) : Type 0 where
 -- The tree is printed in the position as some tokens, and these bytes are their text.
 abbrev pub IsTextOf : Position → Tree → List ℕ → Type 0
 IsTextOf s t bytes = (ts : List Tok) × PrintedAs s t ts × (bytes ≡ text ts)
+
+-- The tree is printed in the position as some tokens, and these bytes are a layout of them.
+abbrev pub IsLaidOut : Position → Tree → List ℕ → Type 0
+IsLaidOut s t bytes = (ts : List Tok) × PrintedAs s t ts × IsLayout ts (chars bytes)
+
+-- The bytes are read by themselves as the same tree, up to parentheses and fill-ins, and as no other; and they are a layout of
+-- what is printed of this one in the position.
+abbrev pub IsLaidOutAgain : Position → Tree → List ℕ → Type 0
+IsLaidOutAgain s t bytes =
+    (x : Tree) × IsSameTree t x × IsReadAs in_plain bytes x [] × ((y : Tree) (n : List Tok) → IsReadAs in_plain bytes y n → (y ≡ x) × (n ≡ []))
+    × IsLayout (own_tokens (printed_in s x)) (chars bytes)

@@ -16,6 +16,7 @@ pub use print::Position;
 pub use print::expr_to_text;
 pub use print::print_counted;
 pub use print::print_expr;
+pub use print::tidy_text;
 pub use shown::dump;
 pub use syn_expr_classify::classify;
 pub use syn_expr_classify::expr_leading_label;

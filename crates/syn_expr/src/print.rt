@@ -1,8 +1,8 @@
-//! The printer of expressions: a tree's own tokens, with the parentheses that it needs in a position.
+//! The printer of expressions: a tree's own tokens, with the parentheses that it needs in a position, and their text.
 
 ghost use Rattle.std.specs.Prelude.{◌≡◌, ◌++◌, ◌*◌, ◌-◌, ◌^◌, ◌≤◌, true, min, string_bytes, IfErr, IfOk, OnOk};
 ghost use Rattle.syn_expr_core.specs.View.{tree_of};
-ghost use Rattle.syn_expr.specs.Promises.{Puts, StandsBack, StandsWithPairs, IsOwn, IsMinimal, IsTextOf, PrintedAs};
+ghost use Rattle.syn_expr.specs.Promises.{Puts, StandsBack, StandsWithPairs, IsOwn, IsMinimal, IsTextOf, IsLaidOut, IsLaidOutAgain, PrintedAs};
 ghost use Rattle.syn_expr_spec.specs.Next.{enclosed};
 ghost use Rattle.syn_expr_spec.specs.Printed as positions;
 ghost use Rattle.syn_expr_spec.specs.Printed.{context_of, place_of};
@@ -21,6 +21,7 @@ ghost use Rattle.syn_text_spec.specs.Leaves.{leaves_lexed};
 use std::alloc::Global;
 use syn_expr_core::expr::Expr;
 use syn_expr_fixup::FixupContext;
+use syn_tidy::tidy;
 use syn_tokens::buffer::{Parse, ParseBuffer};
 use syn_tokens::error::{ErrorKind, Result};
 use syn_tokens::text::to_text;
@@ -81,6 +82,24 @@ pub fn expr_to_text(alloc: Global, expr: &Expr, position: Position) -> Result<St
 {
     let printed = print_counted(alloc, expr, position.fixup())?;
     to_text(&printed.0)
+}
+
+/// The text of an expression in a position, with white space as people write it: `a.b(&x)?`, where `expr_to_text` writes
+/// `a . b (& x) ?`. The tokens are the same. White space stands where it has to, so between any two puncts that are tokens of
+/// their own (`& &x`, `f:: <T>()`, `& 'a T`), and elsewhere where people put it. No line ends between tokens.
+///
+/// `parse_str` reads that text of a well-formed expression as the same tree, up to parentheses and fill-ins, if its words,
+/// lifetimes, literals and kept tokens are such as `lex` makes. Memory may run out (`OutOfMemory`).
+pub fn tidy_text(alloc: Global, expr: &Expr, position: Position) -> Result<String>
+    // It lays out the tokens that are printed of the expression in this position.
+    ensures layout { IfOk result (λ s. IsLaidOut (position_of position) (tree_of expr.now) (string_bytes s)) }
+    // Of a well-formed expression whose leaves are lexed, the text is lexed, and read by itself as the same tree; and it lays out
+    // what is printed of this one in this position.
+    ensures again { IfOk result (λ s. is_well_formed (tree_of expr.now) ≡ true → leaves_lexed (tree_of expr.now) ≡ true → IsLaidOutAgain (position_of position) (tree_of expr.now) (string_bytes s)) }
+    ensures memory { IfErr result (λ e. e.kind ≡ ErrorKind.OutOfMemory) }
+{
+    let printed = print_counted(alloc, expr, position.fixup())?;
+    tidy(alloc, &printed.0)
 }
 
 /// Where an expression is, and what may come after it there.

@@ -1,18 +1,22 @@
 -- What is left of an expression without its parentheses.
-use Rattle.std.specs.Prelude.{◌≡◌, List, [], Option, Some, None, Result, IfOk, ℕ, if◌then◌else◌, length}
+use Rattle.std.specs.Prelude.{◌≡◌, false, List, [], Option, Some, None, Result, IfOk, ℕ, if◌then◌else◌, length}
 use Rattle.std.specs.declared.vec.Vec.{Vec}
 use Rattle.std.specs.declared.alloc.Global.{Global}
 use Rattle.std.specs.declared.alloc.AllocError.{AllocError}
 use denote.Ref.{MutBor}
-use Rattle.syn_lower_spec.specs.Tree.{AttributeTree}
+use Rattle.syn_lower_spec.specs.Tree.{AttributeTree, no_qself}
 use Rattle.syn_lower_leaves.specs.declared.attr.Attribute.{Attribute}
-use Rattle.syn_expr_spec.specs.Tree.{Tree, Children, prepend, flatten, flatten_children}
+use Rattle.syn_expr_spec.specs.Tree.{Tree, Children, leaf, path, prepend, flatten, flatten_children}
 use Rattle.syn_expr_ast.specs.Attrs.{attrs_of, before_inner}
 use Rattle.syn_expr_ast.specs.View.{FieldView}
 
 -- u is t without its parentheses
 unfoldable pub IsFlat : Tree → Tree → Type 0
 IsFlat t u = u ≡ flatten t
+
+-- what is in the place of an expression that was dropped: a path without segments
+abbrev pub placeholder : Tree
+placeholder = leaf (path no_qself (record { leading = false; segments = []; trailing = false }))
 
 -- us are the operands ts without their parentheses
 unfoldable pub AreFlat : Children → Children → Type 0

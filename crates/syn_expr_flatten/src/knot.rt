@@ -15,6 +15,7 @@ use crate::attrs::{Before, Flattened, put_around, put_before};
 use crate::block::{if_expr, while_expr};
 use crate::paren::unwrapped;
 use crate::{atom, jump, members, operation, pat, trailer};
+use std::alloc::Global;
 use std::mem::replace;
 use syn_expr_ast::atom::{ExprInfer, ExprLit, ExprMacro, ExprPath};
 use syn_expr_ast::attrs::put_attributes;
@@ -122,6 +123,23 @@ pub(crate) fn operand(x: &mut Expr) -> Flattened<()>
 {
     flattened(x, None)?;
     Ok(())
+}
+
+/// The allocator of the lists in an expression.
+pub(crate) fn alloc_of(expr: &Expr) -> Global {
+    macro_rules! by_kind {
+        ($($kind:ident)*) => {
+            match expr {
+                $(Expr::$kind(x) => *x.attrs.allocator(),)*
+                Expr::Verbatim(tokens) => tokens.alloc(),
+            }
+        };
+    }
+    by_kind!(
+        Array Assign Async Await Binary Block Break Call Cast Closure Const Continue Field ForLoop Group If Index Infer Let
+        Lit Loop Macro Match MethodCall Paren Path Range RawAddr Reference Repeat Return Struct Try TryBlock Tuple Unary
+        Unsafe While Yield
+    )
 }
 
 /// Verbatim tokens, with those of more attributes before them. Refused where memory runs out.

@@ -183,7 +183,7 @@ mutual
   cleared_children (child k c t ks) i = (λ f. cleared t lev.Jump (piece_context k) (i.0 f), cleared_children ks i.1)
 
 mutual
-  own_clear : (t : Tree) (r : List Tok) → own (clear t) r ≡ own t r
+  pub own_clear : (t : Tree) (r : List Tok) → own (clear t) r ≡ own t r
   own_clear (leaf k) r = refl
   own_clear (paren m t) r = ap (λ (l : List Tok). o.enclosed del.Parenthesis l r) (own_clear t [])
   own_clear (attributed a more t) r = ap (attributes_own (outers (a ∷ more))) (own_clear t r)

@@ -10,7 +10,7 @@ ghost use Rattle.syn_expr.specs.Texts.{position_of};
 ghost use Rattle.syn_expr_ast.specs.Printed.{ReadsExactly};
 ghost use Rattle.syn_expr_core.specs.Refused.{MayRefuse};
 ghost use Rattle.syn_expr_core.specs.View.{tree_of};
-ghost use Rattle.syn_expr_flatten.specs.Flat.{IsFlat};
+ghost use Rattle.syn_expr_flatten.specs.Flat.{IsFlat, placeholder};
 ghost use Rattle.syn_expr_spec.specs.Place.{plain};
 ghost use Rattle.syn_expr_spec.specs.Printed as positions;
 ghost use Rattle.syn_expr_spec.specs.Printed.{context_of};
@@ -46,6 +46,7 @@ pub fn well_formed(expr: &Expr) -> bool
 pub fn flattened(expr: &mut Expr) -> Result<()>
     ensures tree { IfOk result (λ _. IsFlat (tree_of expr.old) (tree_of expr.new)) }
     ensures memory { IfErr result (λ e. e.kind ≡ ErrorKind.OutOfMemory) }
+    ensures refused { IfErr result (λ _. tree_of expr.new ≡ placeholder) }
 {
     flatten_in_place(expr)
 }
