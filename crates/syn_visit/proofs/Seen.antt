@@ -1,6 +1,7 @@
 -- What was passed of the operands of a node, and of the guards in a pattern.
+use Rattle.std.specs.Option.{option_to_list}
 use Rattle.std.specs.Prelude.{IsErr, IsErrAnd}
-use Rattle.std.proofs.Common.{◌≡◌, List, [], ◌∷◌, ◌++◌, map, flat_map, Option, Some, None, Result, Ok, Err, refl, sym, ap, ◌∙◌, subst}
+use Rattle.std.proofs.Common.{◌≡◌, Bool, List, [], ◌∷◌, ◌++◌, map, flat_map, Option, Some, None, Result, Ok, Err, refl, sym, ap, ◌∙◌, subst}
 use Rattle.std.proofs.lemmas.List.{append-nil}
 use Rattle.std.specs.declared.boxed.Box.{Box}
 use Rattle.std.specs.declared.alloc.Global.{Global}
@@ -23,10 +24,13 @@ use Rattle.syn_expr_core.specs.declared.control.ExprLet.{ExprLet, out-ExprLet}
 use Rattle.syn_expr_core.specs.declared.control.ExprMatch.{ExprMatch, out-ExprMatch}
 use Rattle.syn_expr_core.proofs.TreeOf.{arm-is, closure-is, for_loop-is, guard-is, let_expr-is, match_expr-is}
 use Rattle.syn_lower.specs.View.{values}
-use Rattle.syn_visit_kinds.specs.Nodes.{all_nodes, operands_in}
+use Rattle.syn_visit_kinds.specs.Nodes.{all_nodes, nodes_below, operands_in}
 use Rattle.syn_visit_kinds.specs.Parts.{arm_operands, else_operand, field_pattern}
+use Rattle.syn_visit_kinds.specs.Tested.{Added, Tested, Told, ToldWith}
 use Rattle.syn_visit_kinds.specs.Walk.{Walk, ended, Saw, SawWith, Shown}
-use Rattle.syn_visit_kinds.proofs.Changed.{attributed_operands, closure_expr_operands, for_loop_operands, let_operands, match_operands}
+use Rattle.syn_visit_kinds.proofs.OperandsOf.{attributed_operands, closure_expr_operands, for_loop_operands, let_operands, match_operands}
+use Rattle.syn_visit_kinds.proofs.Levels.{below_nodes}
+use Rattle.syn_visit_kinds.proofs.Tested.{told_known_with, tested_flat}
 use Rattle.syn_visit_kinds.proofs.Walk.{first_stops, known_with, walk_both, walk_flat, walk_same, walk_shown}
 
 -- ---- a list in two parts
@@ -128,3 +132,24 @@ arm_are x = ap arm_operands (arm-is x)
 
 pub guard_are : (x : PatGuard) → (guard_of x).guards ≡ (pat_of (out-PatGuard x).pat.value).guards ++ tree_of (out-PatGuard x).guard.value ∷ []
 guard_are x = ap (λ (v : PatView). v.guards) (guard-is x)
+
+-- ---- what a test answered, as it is handed on
+
+pub told_by : {E : Type 0} (post : Bor E → Bool → Type 0) (one : Bor E) {a b : Bool} → b ≡ a → post one a → Told (λ y. y) post one.now b
+told_by post one is met = record { one = one; shows = refl; met = subst (post one) (sym is) met }
+
+-- all nodes below, where a test of all nodes is passed the operands
+pub nodes_tested : {C : Type 0} {c : C} {post : Bor Expr → Bor C → Bool → Type 0} (of : C → Bor Expr → Bool → Type 0)
+    → ((one : Bor Expr) (with : Bor C) (b : Bool) → post one with b → Tested (Told tree_of (of with.now)) (all_nodes (tree_of one.now)) b)
+    → (t : Tree) {b : Bool} → Tested (ToldWith tree_of post c) (operands_in t) b → Tested (Told tree_of (of c)) (nodes_below t) b
+nodes_tested {c = c} of says t {b = b} w =
+    subst (λ l. Tested (Told tree_of (of c)) l b) (sym (below_nodes t)) (tested_flat all_nodes (told_known_with (λ d y a. Tested (Told tree_of (of d)) (all_nodes y) a) says) w)
+
+-- ---- what was asked, and what it adds
+
+module _ {K : Type 0} (post : Bor Expr → Option K → Type 0) (one : Bor Expr) {a : Option K} {before : List K} where
+  pub added_one : {k : K} {after : List K} → post one a → a ≡ Some k → after ≡ before ++ k ∷ [] → Added post one.now before after
+  added_one met is adds = record { answer = a; told = record { one = one; shows = refl; met = met }; adds = adds ∙ ap (λ o. before ++ option_to_list o) (sym is) }
+
+  pub added_none : post one a → a ≡ None → Added post one.now before before
+  added_none met is = record { answer = a; told = record { one = one; shows = refl; met = met }; adds = sym (ap (λ o. before ++ option_to_list o) is ∙ append-nil before) }

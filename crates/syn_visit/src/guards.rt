@@ -1,11 +1,8 @@
 //! The guards in a pattern, which are the expressions in it.
 
-ghost use Rattle.std.specs.Prelude.{◌≡◌, IfErr, IfOk};
 ghost use Rattle.syn_expr_core.specs.View.{pat_of, tree_of};
-ghost use Rattle.syn_expr_spec.specs.Tree.{Tree};
 ghost use Rattle.syn_visit.specs.Within.{SeesWithin, TakesWithin};
-ghost use Rattle.syn_visit_kinds.specs.Calls.{Leaves, Refused};
-ghost use Rattle.syn_visit_kinds.specs.Parts.{map_pat};
+ghost use Rattle.syn_visit_kinds.specs.Changes.{Change, ChangedGuards};
 ghost use Rattle.syn_visit_kinds.specs.Walk.{Saw, Shown, Walk};
 
 use crate::members;
@@ -72,8 +69,7 @@ pub(crate) fn pattern_mut<R: Drop, F: Fn(&mut Expr) -> Result<(), R>>(
     call: &F,
 ) -> Result<(), R>
     requires { TakesWithin (F.pre call.now) x.old }
-    ensures view { (f : Tree → Tree) → Leaves tree_of f (F.post call.now) → IfOk result (λ _. pat_of x.new ≡ map_pat f (pat_of x.old)) }
-    ensures refused { IfErr result (Refused (F.post call.now)) }
+    ensures { ChangedGuards (Change tree_of (F.post call.now)) (pat_of x.old) result (pat_of x.new) }
 {
     let passed = Passed {
         call,
@@ -88,8 +84,7 @@ pub(crate) fn within_mut<R: Drop, F: Fn(&mut Expr) -> Result<(), R>>(
     passed: &Passed<'_, F, R>,
 ) -> Result<(), R>
     requires { TakesWithin (F.pre passed.now.call.now) x.old }
-    ensures view { (f : Tree → Tree) → Leaves tree_of f (F.post passed.now.call.now) → IfOk result (λ _. pat_of x.new ≡ map_pat f (pat_of x.old)) }
-    ensures refused { IfErr result (Refused (F.post passed.now.call.now)) }
+    ensures { ChangedGuards (Change tree_of (F.post passed.now.call.now)) (pat_of x.old) result (pat_of x.new) }
 {
     match x {
         Pat::Const(_) => Ok(()),

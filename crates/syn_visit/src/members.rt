@@ -1,7 +1,7 @@
 //! What holds both expressions and patterns: a function is called with each operand.
 
 ghost use Rattle.std.specs.Option.{ForSome};
-ghost use Rattle.std.specs.Prelude.{◌≡◌, ◌⊎◌, Contains, IfErr, IfOk, map};
+ghost use Rattle.std.specs.Prelude.{Contains};
 ghost use Rattle.syn_expr_core.specs.View.{arm_of, closure_of, for_loop_of, guard_of, let_of, match_of, pat_of, tree_of};
 ghost use Rattle.syn_expr_core.specs.declared.closure.ExprClosure.{out-ExprClosure};
 ghost use Rattle.syn_expr_core.specs.declared.control.Arm.{Arm};
@@ -9,11 +9,11 @@ ghost use Rattle.syn_expr_core.specs.declared.control.ExprForLoop.{out-ExprForLo
 ghost use Rattle.syn_expr_core.specs.declared.control.ExprLet.{out-ExprLet};
 ghost use Rattle.syn_expr_core.specs.declared.control.ExprMatch.{out-ExprMatch};
 ghost use Rattle.syn_expr_core.specs.declared.pat.PatGuard.{out-PatGuard};
-ghost use Rattle.syn_expr_spec.specs.Tree.{Tree};
 ghost use Rattle.syn_visit.specs.Within.{SeesArm, SeesWithin, TakesArm, TakesWithin};
-ghost use Rattle.syn_visit_kinds.specs.Calls.{Leaves, LeavesWith, Refused, RefusedWith, Takes, TakesWith};
-ghost use Rattle.syn_visit_kinds.specs.Nodes.{map_operands, operands_in};
-ghost use Rattle.syn_visit_kinds.specs.Parts.{arm_operands, map_arm, map_pat};
+ghost use Rattle.syn_visit_kinds.specs.Calls.{Takes, TakesWith};
+ghost use Rattle.syn_visit_kinds.specs.Changes.{Change, Changed, ChangedGuards, ChangedIn, PassesGuards};
+ghost use Rattle.syn_visit_kinds.specs.Nodes.{operands_in};
+ghost use Rattle.syn_visit_kinds.specs.Parts.{ChangedArm, arm_operands};
 ghost use Rattle.syn_visit_kinds.specs.Walk.{Saw, Sees, Shown, Walk};
 
 use crate::guards::{pattern, pattern_mut, within, within_mut};
@@ -121,8 +121,7 @@ fn boxed_pattern_mut<R: Drop, F: Fn(&mut Expr) -> Result<(), R>>(
     call: &F,
 ) -> Result<(), R>
     requires { TakesWithin (F.pre call.now) x.old.value }
-    ensures view { (f : Tree → Tree) → Leaves tree_of f (F.post call.now) → IfOk result (λ _. pat_of x.new.value ≡ map_pat f (pat_of x.old.value)) }
-    ensures refused { IfErr result (Refused (F.post call.now)) }
+    ensures { ChangedGuards (Change tree_of (F.post call.now)) (pat_of x.old.value) result (pat_of x.new.value) }
 {
     pattern_mut(x, call)
 }
@@ -135,12 +134,10 @@ pub(crate) fn guarded_mut<
 >(x: &mut PatGuard, passed: &Passed<'_, F, R>, pattern: &G) -> Result<(), R>
     requires pat { TakesWith (G.pre pattern.now) passed.now (out-PatGuard x.old).pat.value }
     requires guard { Takes (F.pre passed.now.call.now) (out-PatGuard x.old).guard.value }
-    ensures view { (f : Tree → Tree) → LeavesWith pat_of (map_pat f) (G.post pattern.now) passed.now → Leaves tree_of f (F.post passed.now.call.now) → IfOk result (λ _. guard_of x.new ≡ map_pat f (guard_of x.old)) }
-    ensures refused { IfErr result (λ e. RefusedWith (G.post pattern.now) passed.now e ⊎ Refused (F.post passed.now.call.now) e) }
+    ensures { PassesGuards pat_of (Change tree_of (F.post passed.now.call.now)) (G.post pattern.now) passed.now → ChangedGuards (Change tree_of (F.post passed.now.call.now)) (guard_of x.old) result (guard_of x.new) }
 {
     boxed_with_mut(&mut x.pat, passed, pattern)?;
-    boxed_mut(&mut x.guard, passed.call)?;
-    Ok(())
+    boxed_mut(&mut x.guard, passed.call)
 }
 
 /// `|a, b| a + b`
@@ -151,16 +148,14 @@ pub(crate) fn closure_mut<R: Drop, F: Fn(&mut Expr) -> Result<(), R>>(
     requires inputs { (q : _) → Contains (out-ExprClosure x.old).inputs.inner.items q → TakesWithin (F.pre call.now) q.0 }
     requires last { ForSome (out-ExprClosure x.old).inputs.last (λ b. TakesWithin (F.pre call.now) b.value) }
     requires body { Takes (F.pre call.now) (out-ExprClosure x.old).body.value }
-    ensures tree { (f : Tree → Tree) → Leaves tree_of f (F.post call.now) → IfOk result (λ _. closure_of x.new ≡ map_operands f (closure_of x.old)) }
-    ensures refused { IfErr result (Refused (F.post call.now)) }
+    ensures { ChangedIn (Change tree_of (F.post call.now)) (closure_of x.old) result (closure_of x.new) }
 {
     let passed = Passed {
         call,
         errors: PhantomData,
     };
     punctuated_with_mut(&mut x.inputs, &passed, &within_mut::<R, F>)?;
-    boxed_mut(&mut x.body, call)?;
-    Ok(())
+    boxed_mut(&mut x.body, call)
 }
 
 /// `for p in a { .. }`
@@ -170,12 +165,10 @@ pub(crate) fn for_loop_mut<R: Drop, F: Fn(&mut Expr) -> Result<(), R>>(
 ) -> Result<(), R>
     requires pat { TakesWithin (F.pre call.now) (out-ExprForLoop x.old).pat.value }
     requires expr { Takes (F.pre call.now) (out-ExprForLoop x.old).expr.value }
-    ensures tree { (f : Tree → Tree) → Leaves tree_of f (F.post call.now) → IfOk result (λ _. for_loop_of x.new ≡ map_operands f (for_loop_of x.old)) }
-    ensures refused { IfErr result (Refused (F.post call.now)) }
+    ensures { ChangedIn (Change tree_of (F.post call.now)) (for_loop_of x.old) result (for_loop_of x.new) }
 {
     boxed_pattern_mut(&mut x.pat, call)?;
-    boxed_mut(&mut x.expr, call)?;
-    Ok(())
+    boxed_mut(&mut x.expr, call)
 }
 
 /// `let p = a`
@@ -185,23 +178,19 @@ pub(crate) fn let_expr_mut<R: Drop, F: Fn(&mut Expr) -> Result<(), R>>(
 ) -> Result<(), R>
     requires pat { TakesWithin (F.pre call.now) (out-ExprLet x.old).pat.value }
     requires expr { Takes (F.pre call.now) (out-ExprLet x.old).expr.value }
-    ensures tree { (f : Tree → Tree) → Leaves tree_of f (F.post call.now) → IfOk result (λ _. let_of x.new ≡ map_operands f (let_of x.old)) }
-    ensures refused { IfErr result (Refused (F.post call.now)) }
+    ensures { ChangedIn (Change tree_of (F.post call.now)) (let_of x.old) result (let_of x.new) }
 {
     boxed_pattern_mut(&mut x.pat, call)?;
-    boxed_mut(&mut x.expr, call)?;
-    Ok(())
+    boxed_mut(&mut x.expr, call)
 }
 
 /// `p if a => b`
 fn arm_mut<R: Drop, F: Fn(&mut Expr) -> Result<(), R>>(x: &mut Arm, call: &F) -> Result<(), R>
     requires { TakesArm (F.pre call.now) x.old }
-    ensures view { (f : Tree → Tree) → Leaves tree_of f (F.post call.now) → IfOk result (λ _. arm_of x.new ≡ map_arm f (arm_of x.old)) }
-    ensures refused { IfErr result (Refused (F.post call.now)) }
+    ensures { ChangedArm (Change tree_of (F.post call.now)) (arm_of x.old) result (arm_of x.new) }
 {
     pattern_mut(&mut x.pat, call)?;
-    boxed_mut(&mut x.body, call)?;
-    Ok(())
+    boxed_mut(&mut x.body, call)
 }
 
 /// The arms of a `match`.
@@ -211,8 +200,7 @@ fn arms_mut<R: Drop, F: Fn(&mut Expr) -> Result<(), R>>(
     call: &F,
 ) -> Result<(), R>
     requires { (x : Arm) → Contains xs.old.items x → TakesArm (F.pre call.now) x }
-    ensures views { (f : Tree → Tree) → Leaves tree_of f (F.post call.now) → IfOk result (λ _. map arm_of xs.new.items ≡ map (map_arm f) (map arm_of xs.old.items)) }
-    ensures refused { IfErr result (Refused (F.post call.now)) }
+    ensures { Changed (λ a r b. ChangedArm (Change tree_of (F.post call.now)) (arm_of a) r (arm_of b)) xs.old.items result xs.new.items }
 {
     for x in xs.iter_mut() {
         arm_mut(x, call)?;
@@ -227,10 +215,8 @@ pub(crate) fn match_expr_mut<R: Drop, F: Fn(&mut Expr) -> Result<(), R>>(
 ) -> Result<(), R>
     requires expr { Takes (F.pre call.now) (out-ExprMatch x.old).expr.value }
     requires arms { (one : Arm) → Contains (out-ExprMatch x.old).arms.items one → TakesArm (F.pre call.now) one }
-    ensures tree { (f : Tree → Tree) → Leaves tree_of f (F.post call.now) → IfOk result (λ _. match_of x.new ≡ map_operands f (match_of x.old)) }
-    ensures refused { IfErr result (Refused (F.post call.now)) }
+    ensures { ChangedIn (Change tree_of (F.post call.now)) (match_of x.old) result (match_of x.new) }
 {
     boxed_mut(&mut x.expr, call)?;
-    arms_mut(&mut x.arms, call)?;
-    Ok(())
+    arms_mut(&mut x.arms, call)
 }

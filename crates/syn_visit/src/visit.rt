@@ -13,13 +13,13 @@
 
 ghost use Rattle.std.specs.List as list;
 ghost use Rattle.std.specs.List.{list_any};
-ghost use Rattle.std.specs.Option.{option_to_list};
-ghost use Rattle.std.specs.Prelude.{◌≡◌, ◌<◌, ◌++◌, Bool, IfErr, IfOk, Option, is_err};
+ghost use Rattle.std.specs.Prelude.{◌≡◌, ◌<◌, Bool, IfErr, IfOk, Option, is_err};
 ghost use Rattle.syn_expr_core.specs.View.{tree_of};
 ghost use Rattle.syn_expr_core.specs.declared.expr.Expr.{Expr, size-Expr};
 ghost use Rattle.syn_expr_spec.specs.Tree.{Tree};
 ghost use Rattle.syn_visit_kinds.specs.Calls.{Asks, AsksWith, Tells, TellsWith};
 ghost use Rattle.syn_visit_kinds.specs.Nodes.{all_nodes, operands_in};
+ghost use Rattle.syn_visit_kinds.specs.Tested.{Added, Found, Tested, Told, ToldWith};
 ghost use Rattle.syn_visit_kinds.specs.Walk.{Saw, SawWith, Sees, SeesWith, Shown, Walk};
 
 use crate::members;
@@ -164,14 +164,15 @@ fn refuse_if(found: bool) -> Result<(), ()>
 /// The test only has to take expressions that are smaller than this one, so it may pass itself on.
 pub fn any_operand<F: Fn(&Expr) -> bool>(expr: &Expr, test: F) -> bool
     requires { (child : Expr) → size-Expr child < size-Expr expr.now → Asks (F.pre test) child }
-    ensures { (p : Tree → Bool) → Tells (λ y. p (tree_of y)) (F.post test) → result ≡ list_any p (operands_in (tree_of expr.now)) }
+    ensures tested { Tested (Told tree_of (F.post test)) (operands_in (tree_of expr.now)) result }
+    ensures tree { (p : Tree → Bool) → Tells (λ y. p (tree_of y)) (F.post test) → result ≡ list_any p (operands_in (tree_of expr.now)) }
 {
     let found = for_each_operand(
         expr,
         &mut (),
         |operand: &Expr, _state: &mut ()| -> Result<(), ()>
             requires { Asks (F.pre test) operand.now }
-            ensures { (p : Tree → Bool) → Tells (λ y. p (tree_of y)) (F.post test) → is_err result ≡ p (tree_of operand.now) }
+            ensures { Told (λ y. y) (F.post test) operand.now (is_err result) }
         { refuse_if(test(operand)) },
     );
     found.is_err()
@@ -180,13 +181,14 @@ pub fn any_operand<F: Fn(&Expr) -> bool>(expr: &Expr, test: F) -> bool
 /// As `any_operand`, with something else that the test is called with and only reads.
 pub fn any_operand_with<C, F: Fn(&Expr, &C) -> bool>(expr: &Expr, context: &C, test: F) -> bool
     requires { (child : Expr) → size-Expr child < size-Expr expr.now → AsksWith (F.pre test) context.now child }
-    ensures { (p : Tree → Bool) → TellsWith (λ y. p (tree_of y)) (F.post test) context.now → result ≡ list_any p (operands_in (tree_of expr.now)) }
+    ensures tested { Tested (ToldWith tree_of (F.post test) context.now) (operands_in (tree_of expr.now)) result }
+    ensures tree { (p : Tree → Bool) → TellsWith (λ y. p (tree_of y)) (F.post test) context.now → result ≡ list_any p (operands_in (tree_of expr.now)) }
 {
     any_operand(
         expr,
         |operand: &Expr| -> bool
             requires { AsksWith (F.pre test) context.now operand.now }
-            ensures { (p : Tree → Bool) → TellsWith (λ y. p (tree_of y)) (F.post test) context.entry.now → result ≡ p (tree_of operand.now) }
+            ensures { ToldWith (λ y. y) (F.post test) context.entry.now operand.now result }
         { test(operand, context) },
     )
 }
@@ -196,7 +198,8 @@ pub fn any_operand_with<C, F: Fn(&Expr, &C) -> bool>(expr: &Expr, context: &C, t
 #[tactic(auto, using(syn_visit_kinds::proofs::Levels::any_level))]
 pub fn any<F: Fn(&Expr) -> bool>(expr: &Expr, test: &F) -> bool
     requires { F.IsAlwaysCallable test.now }
-    ensures { (p : Tree → Bool) → Tells (λ y. p (tree_of y)) (F.post test.now) → result ≡ list_any p (all_nodes (tree_of expr.now)) }
+    ensures tested { Tested (Told tree_of (F.post test.now)) (all_nodes (tree_of expr.now)) result }
+    ensures tree { (p : Tree → Bool) → Tells (λ y. p (tree_of y)) (F.post test.now) → result ≡ list_any p (all_nodes (tree_of expr.now)) }
 {
     test(expr) || any_operand_with(expr, test, any)
 }
@@ -211,6 +214,7 @@ pub fn filter_map<T: Drop, F: Fn(&Expr) -> Option<T>>(
     find: &F,
 ) -> Result<Vec<T>, Error>
     requires { F.IsAlwaysCallable find.now }
+    ensures asked { IfOk result (λ v. Found (Told tree_of (F.post find.now)) (all_nodes (tree_of expr.now)) v.items) }
     ensures found { (g : Tree → Option T) → Tells (λ y. g (tree_of y)) (F.post find.now) → IfOk result (λ v. v.items ≡ list.filter_map g (all_nodes (tree_of expr.now))) }
     ensures memory { IfErr result (λ e. e.kind ≡ ErrorKind.OutOfMemory) }
 {
@@ -220,7 +224,7 @@ pub fn filter_map<T: Drop, F: Fn(&Expr) -> Option<T>>(
         &mut found,
         &|node: &Expr, found: &mut Vec<T>| -> Result<(), Error>
             requires { F.IsAlwaysCallable find.now }
-            ensures found { (g : Tree → Option T) → Tells (λ y. g (tree_of y)) (F.post find.entry.now) → IfOk result (λ _. found.new.items ≡ found.old.items ++ option_to_list (g (tree_of node.now))) }
+            ensures asked { IfOk result (λ _. Added (F.post find.entry.now) node.now found.old.items found.new.items) }
             ensures memory { IfErr result (λ e. e.kind ≡ ErrorKind.OutOfMemory) }
         {
             if let Some(one) = find(node) {

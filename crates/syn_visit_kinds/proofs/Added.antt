@@ -1,37 +1,64 @@
--- A walk whose calls add to a list: each adds what f answers for the node that it is passed, if it answers something. And the
--- error of a walk.
-use Rattle.std.proofs.Common.{◌≡◌, List, ◌++◌, Option, Some, None, Result, Ok, Err, refl, sym, ap, ◌∙◌}
+-- A walk whose calls ask something of what they are passed, and add to a list what the answer holds. And the error of a walk.
+use Rattle.std.proofs.Common.{◌≡◌, List, [], ◌∷◌, ◌++◌, Option, Some, None, Result, Ok, refl, sym, ap, ◌∙◌}
 use Rattle.std.proofs.lemmas.List.{append-nil, append_assoc}
 use Rattle.std.specs.List.{cons_option, filter_map}
 use Rattle.std.specs.Option.{option_to_list}
-use Rattle.std.specs.Prelude.{IfErr, MatchResult}
+use Rattle.std.specs.Prelude.{IfErr, IfOk}
 use denote.Ref.{Bor, MutBor}
+use Rattle.syn_visit_kinds.specs.Calls.{Each}
+use Rattle.syn_visit_kinds.specs.Tested.{Added, Found, Told}
 use Rattle.syn_visit_kinds.specs.Walk.{Walk, ended, refused, went, Saw, Shown}
 use Rattle.syn_visit_kinds.proofs.Walk.{shown_known}
-
--- `more` is added at the end of the list that `seen` shows of the state, or the answer is an error that meets N
-abbrev pub Adds : {S K R : Type 0} → (S → List K) → (R → Type 0) → List K → S → Result (Unit {0}) R → S → Type 0
-Adds seen N more s r z = MatchResult r (λ _. seen z ≡ seen s ++ more) N
 
 first : {K : Type 0} (o : Option K) (more : List K) → option_to_list o ++ more ≡ cons_option o more
 first None more = refl
 first (Some k) more = refl
 
-module _ {E B S K R : Type 0} (h : E → B) (seen : S → List K) (f : B → Option K) (N : R → Type 0) where
-  next : (s m z : S) (r : Result (Unit {0}) R) (o : Option K) (more : List K) → seen m ≡ seen s ++ option_to_list o → Adds seen N more m r z → Adds seen N (cons_option o more) s r z
-  next s m z (Ok u) o more is added = added ∙ ap (λ l. l ++ more) is ∙ append_assoc (seen s) (option_to_list o) more ∙ ap (λ l. seen s ++ l) (first o more)
-  next s m z (Err e) o more is refusal = refusal
+-- what the answers at these hold is added to a list
+record Grown {B K : Type 0} (ask : B → Option K → Type 0) (ys : List B) (before after : List K) : Type 0 where
+  pub answers : List (Option K)
+  pub asked : Each ask ys answers
+  pub adds : after ≡ before ++ filter_map (λ o. o) answers
 
-  all : {ys : List B} {s z : S} {r : Result (Unit {0}) R} → Walk (Shown h (λ x a b t. Adds seen N (option_to_list (f (h x))) a b t)) ys s r z → Adds seen N (filter_map f ys) s r z
-  all (ended {s = s}) = sym (append-nil (seen s))
-  all (refused shown) = shown.saw
-  all (went {x = x} {xs = xs} {s = s} {m = m} {z = z} {r = r} shown w) =
-      next s m z r (f x) (filter_map f xs) (shown.saw ∙ ap (λ y. seen s ++ option_to_list (f y)) shown.shows) (all w)
+module _ {E B S K : Type 0} (h : E → B) (seen : S → List K) {ask : Bor E → Option K → Type 0} where
+  grown_none : (s : S) → Grown (Told h ask) [] (seen s) (seen s)
+  unfolding Each
+  grown_none s = record { answers = []; asked = tt; adds = sym (append-nil (seen s)) }
 
-  pub walk_adds : {post : Bor E → MutBor S → Result (Unit {0}) R → MutBor S → Type 0} {ys : List B} {s z : S} {r : Result (Unit {0}) R} → Walk (Shown h (Saw post)) ys s r z
-      → ((one : Bor E) (old : MutBor S) (b : Result (Unit {0}) R) (new : MutBor S) → post one old b new → Adds seen N (option_to_list (f (h one.now))) old.now b new.now)
-      → Adds seen N (filter_map f ys) s r z
-  walk_adds w says = all (shown_known {to = λ x a b t. Adds seen N (option_to_list (f (h x))) a b t} w says)
+  grown_more : {y : B} {ys : List B} {s m z : S} (one : E) → h one ≡ y → Added ask one (seen s) (seen m) → Grown (Told h ask) ys (seen m) (seen z) → Grown (Told h ask) (y ∷ ys) (seen s) (seen z)
+  unfolding Each
+  grown_more {s = s} one shows call more = record {
+    answers = call.answer ∷ more.answers;
+    asked = (record { one = call.told.one; shows = ap h call.told.shows ∙ shows; met = call.told.met }, more.asked);
+    adds =
+        more.adds ∙ ap (λ l. l ++ filter_map (λ o. o) more.answers) call.adds ∙ append_assoc (seen s) (option_to_list call.answer) (filter_map (λ o. o) more.answers)
+        ∙ ap (λ l. seen s ++ l) (first call.answer (filter_map (λ o. o) more.answers));
+  }
+
+  grown : {R : Type 0} {ys : List B} {s z : S} {r : Result (Unit {0}) R} → Walk (Shown h (λ x a b t. IfOk b (λ _. Added ask x (seen a) (seen t)))) ys s r z → r ≡ Ok tt → Grown (Told h ask) ys (seen s) (seen z)
+  grown ended is = grown_none _
+  grown (refused shown) is = absurd (cc)
+  grown (went shown w) is = grown_more shown.one shown.shows shown.saw (grown w is)
+
+  -- what was found where nothing was before
+  pub walk_found : {R : Type 0} {post : Bor E → MutBor S → Result (Unit {0}) R → MutBor S → Type 0} {ys : List B} {s z : S} → Walk (Shown h (Saw post)) ys s (Ok tt) z → seen s ≡ []
+      → ((one : Bor E) (old : MutBor S) (b : Result (Unit {0}) R) (new : MutBor S) → post one old b new → IfOk b (λ _. Added ask one.now (seen old.now) (seen new.now)))
+      → Found (Told h ask) ys (seen z)
+  walk_found w nothing says =
+      let all = grown (shown_known {to = λ x a b t. IfOk b (λ _. Added ask x (seen a) (seen t))} w says) refl in
+      record { answers = all.answers; asked = all.asked; are = all.adds ∙ ap (λ l. l ++ filter_map (λ o. o) all.answers) nothing }
+
+-- where g has the answer
+found_by : {A K : Type 0} {ask : A → Option K → Type 0} (g : A → Option K) → ((x : A) (a : Option K) → ask x a → a ≡ g x) → (xs : List A) (answers : List (Option K)) → Each ask xs answers
+    → filter_map (λ o. o) answers ≡ filter_map g xs
+unfolding Each
+found_by g says [] [] all = refl
+found_by g says (x ∷ xs) (a ∷ answers) all = ap (λ o. cons_option o (filter_map (λ o. o) answers)) (says x a all.0) ∙ ap (cons_option (g x)) (found_by g says xs answers all.1)
+found_by g says [] (a ∷ answers) all = absurd all
+found_by g says (x ∷ xs) [] all = absurd all
+
+pub found_is : {A K : Type 0} {ask : A → Option K → Type 0} (g : A → Option K) → ((x : A) (a : Option K) → ask x a → a ≡ g x) → {xs : List A} {found : List K} → Found ask xs found → found ≡ filter_map g xs
+found_is g says {xs = xs} f = f.are ∙ found_by g says xs f.answers f.asked
 
 -- ---- the error of a walk
 

@@ -1,11 +1,13 @@
 pub mod Added
-pub mod Answered
+pub mod Around
 pub mod Both
-pub mod Calls
-pub mod Changed
+pub mod Changes
 pub mod Elementwise
 pub mod Levels
-pub mod Made
+pub mod OperandsOf
 pub mod Pats
+pub mod Rebuilt
+pub mod Rewritten
+pub mod Tested
 pub mod Upto
 pub mod Walk

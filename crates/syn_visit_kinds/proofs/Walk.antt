@@ -1,7 +1,6 @@
 -- Walks one after the other, and what follows of them.
-use Rattle.std.specs.List.{list_any}
-use Rattle.std.specs.Prelude.{is_err, IsErr, IsErrAnd}
-use Rattle.std.proofs.Common.{◌≡◌, ℕ, ◌+◌, ◌<◌, ◌≤◌, Bool, ◌||◌, List, [], ◌∷◌, ◌++◌, map, flat_map, length, get_or, drop, Result, Ok, Err, refl, sym, ap, ◌∙◌, subst}
+use Rattle.std.specs.Prelude.{IsErr, IsErrAnd}
+use Rattle.std.proofs.Common.{◌≡◌, ℕ, ◌+◌, ◌<◌, ◌≤◌, List, [], ◌∷◌, ◌++◌, map, flat_map, length, get_or, drop, Result, Ok, Err, refl, sym, subst}
 use Rattle.std.proofs.lemmas.List.{drop_all, drop_more}
 use Rattle.std.proofs.lemmas.Result.{err_from_is_err_and}
 use denote.Ref.{Bor, MutBor}
@@ -54,13 +53,6 @@ module _ {A S R : Type 0} {call : A → S → Result (Unit {0}) R → S → Type
 
   pub loop_ends : (xs : List A) (i : ℕ) {s : S} → length xs ≤ i → Walk call (drop i xs) s (Ok tt) s
   loop_ends xs i le = walk_same (sym (drop_all i xs le)) ended
-
-  -- whether a call answered an error, where it does so for what passes a test
-  pub walk_any : (p : A → Bool) → ((x : A) (s : S) (r : Result (Unit {0}) R) (z : S) → call x s r z → is_err r ≡ p x) → {xs : List A} {s z : S} {r : Result (Unit {0}) R}
-      → Walk call xs s r z → is_err r ≡ list_any p xs
-  walk_any p each ended = refl
-  walk_any p each (refused {x = x} {xs = xs} h) = ap (λ b. b || list_any p xs) (each x _ _ _ h)
-  walk_any p each (went {x = x} {xs = xs} h w) = walk_any p each w ∙ ap (λ b. b || list_any p xs) (each x _ _ _ h)
 
 -- the same of what f makes of each
 pub walk_map : {A B S R : Type 0} (f : A → B) {call : B → S → Result (Unit {0}) R → S → Type 0} {xs : List A} {s z : S} {r : Result (Unit {0}) R} → Walk (λ x. call (f x)) xs s r z → Walk call (map f xs) s r z
@@ -124,7 +116,3 @@ pub shown_known : {E B S R : Type 0} {h : E → B} {post : Bor E → MutBor S �
 shown_known ended says = ended
 shown_known {to = to} (refused h) says = refused (record { one = h.one; shows = h.shows; saw = known to says _ _ _ _ h.saw })
 shown_known {to = to} (went h w) says = went (record { one = h.one; shows = h.shows; saw = known to says _ _ _ _ h.saw }) (shown_known w says)
-
-pub shown_any : {E B S R : Type 0} {h : E → B} {post : Bor E → MutBor S → Result (Unit {0}) R → MutBor S → Type 0} (p : B → Bool) {ys : List B} {s z : S} {r : Result (Unit {0}) R}
-    → Walk (Shown h (Saw post)) ys s r z → ((one : Bor E) (old : MutBor S) (b : Result (Unit {0}) R) (new : MutBor S) → post one old b new → is_err b ≡ p (h one.now)) → is_err r ≡ list_any p ys
-shown_any {h = h} p w says = walk_any p (λ y a b t shown. known (λ x c d v. is_err d ≡ p (h x)) says shown.one a b t shown.saw ∙ ap p shown.shows) w

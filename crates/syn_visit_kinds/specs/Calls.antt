@@ -1,6 +1,7 @@
 -- Calls that are passed a part of an expression. What they require and promise depends on that part alone.
 use Rattle.std.specs.Prelude.{◌≡◌, Result, Ok, Err, IfOk, ⊤, List, [], ◌∷◌}
 use denote.Ref.{Bor, MutBor}
+use Rattle.syn_visit_kinds.specs.Changes.{Change, ChangeWith}
 
 -- ---- calls that change what they are passed
 
@@ -13,12 +14,8 @@ abbrev pub Leaves : {E T R : Type 0} → (E → T) → (T → T) → (MutBor E �
 Leaves h k post = (old new : MutBor _) (r : _) → post old r new → IfOk r (λ _. h new.now ≡ k (h old.now))
 
 -- a call that was passed x may have answered `Ok`, and left y there
-pub record Left {E R : Type 0} (post : MutBor E → Result (Unit {0}) R → MutBor E → Type 0) (x y : E) : Type 0 where
-  pub old : MutBor E
-  pub new : MutBor E
-  pub shows : old.now ≡ x
-  pub leaves : new.now ≡ y
-  pub met : post old (Ok tt) new
+abbrev pub Left : {E R : Type 0} → (MutBor E → Result (Unit {0}) R → MutBor E → Type 0) → E → E → Type 0
+Left post x y = Change (λ z. z) post x (Ok tt) y
 
 -- a call may have answered this error
 pub record Refused {E R : Type 0} (post : MutBor E → Result (Unit {0}) R → MutBor E → Type 0) (e : R) : Type 0 where
@@ -34,14 +31,8 @@ TakesWith pre c x = (borrowed : MutBor _) (with : Bor _) → borrowed.now ≡ x 
 abbrev pub LeavesWith : {E C T R : Type 0} → (E → T) → (T → T) → (MutBor E → Bor C → Result (Unit {0}) R → MutBor E → Type 0) → C → Type 0
 LeavesWith h k post c = (old new : MutBor _) (with : Bor _) (r : _) → with.now ≡ c → post old with r new → IfOk r (λ _. h new.now ≡ k (h old.now))
 
-pub record LeftWith {E C R : Type 0} (post : MutBor E → Bor C → Result (Unit {0}) R → MutBor E → Type 0) (c : C) (x y : E) : Type 0 where
-  pub old : MutBor E
-  pub new : MutBor E
-  pub with : Bor C
-  pub shows : old.now ≡ x
-  pub leaves : new.now ≡ y
-  pub passes : with.now ≡ c
-  pub met : post old with (Ok tt) new
+abbrev pub LeftWith : {E C R : Type 0} → (MutBor E → Bor C → Result (Unit {0}) R → MutBor E → Type 0) → C → E → E → Type 0
+LeftWith post c x y = ChangeWith (λ z. z) post c x (Ok tt) y
 
 pub record RefusedWith {E C R : Type 0} (post : MutBor E → Bor C → Result (Unit {0}) R → MutBor E → Type 0) (c : C) (e : R) : Type 0 where
   pub old : MutBor E

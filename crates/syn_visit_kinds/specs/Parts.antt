@@ -1,15 +1,14 @@
 -- Patterns, arms and fields with the expressions in them as a function leaves these.
-use Rattle.std.specs.Prelude.{◌≡◌, Result, List, [], ◌∷◌, ◌++◌, map, Option, Some, None}
+use Rattle.std.specs.Prelude.{◌≡◌, Result, Ok, List, [], ◌∷◌, ◌++◌, map, Option, Some, None}
 use Rattle.std.specs.declared.boxed.Box.{Box}
 use Rattle.std.specs.declared.alloc.Global.{Global}
-use denote.Ref.{Bor, MutBor}
 use Rattle.syn_expr_spec.specs.Tree.{Tree}
 use Rattle.syn_pat.specs.View.{PatView}
 use Rattle.syn_pat.specs.declared.pat.FieldPatKindOf.{FieldPatKindOf}
 use Rattle.syn_pat.specs.declared.pat.FieldPatKindOf.TheVariants as field
 use Rattle.syn_expr_ast.specs.Pats.{ArmView}
 use Rattle.syn_expr_ast.specs.View.{FieldView}
-use Rattle.syn_visit_kinds.specs.Calls.{LeftWith}
+use Rattle.syn_visit_kinds.specs.Changes.{Changed}
 
 -- The expressions in a pattern are its guards.
 abbrev pub map_pat : (Tree → Tree) → PatView → PatView
@@ -21,6 +20,11 @@ map_arm f a = record { attrs = a.attrs; pat = map_pat f a.pat; body = f a.body; 
 -- the operands in an arm, from left to right
 abbrev pub arm_operands : ArmView → List Tree
 arm_operands a = a.pat.guards ++ a.body ∷ []
+
+-- The operands of an arm are passed to a call; what is around them is as it was.
+pub record ChangedArm {R : Type 0} (call : Tree → Result (Unit {0}) R → Tree → Type 0) (a : ArmView) (r : Result (Unit {0}) R) (b : ArmView) : Type 0 where
+  pub operands : Changed call (arm_operands a) r (arm_operands b)
+  pub around : (k : Tree) → map_arm (λ _. k) b ≡ map_arm (λ _. k) a
 
 abbrev pub map_field : (Tree → Tree) → FieldView → FieldView
 map_field f x = record { attrs = x.attrs; member = x.member; colon = x.colon; value = f x.value }
@@ -35,8 +39,8 @@ abbrev pub field_pattern : {P : Type 0} → FieldPatKindOf P → List P
 field_pattern (field.Short x) = []
 field_pattern (field.Full x) = x.pat.value ∷ []
 
--- what a field of a struct pattern was, and what a call left of the pattern in it
-abbrev pub LeftField : {P C R : Type 0} → (MutBor P → Bor C → Result (Unit {0}) R → MutBor P → Type 0) → C → FieldPatKindOf P → FieldPatKindOf P → Type 0
-LeftField post c (field.Short x) (field.Short y) = y ≡ x
-LeftField post c (field.Full x) (field.Full y) = (y.member ≡ x.member) × LeftWith post c x.pat.value y.pat.value
-LeftField post c _ _ = ⊥
+-- A field of a struct pattern: the pattern in it is passed to a call.
+abbrev pub ChangedField : {P R : Type 0} → (P → Result (Unit {0}) R → P → Type 0) → FieldPatKindOf P → Result (Unit {0}) R → FieldPatKindOf P → Type 0
+ChangedField call (field.Short x) r (field.Short y) = (r ≡ Ok tt) × (y ≡ x)
+ChangedField call (field.Full x) r (field.Full y) = (y.member ≡ x.member) × call x.pat.value r y.pat.value
+ChangedField call _ r _ = ⊥

@@ -1,11 +1,10 @@
 //! Kinds that are closed at both ends and hold expressions: each operand is passed to a function.
 
 ghost use Rattle.std.specs.Option.{ForSome};
-ghost use Rattle.std.specs.Prelude.{◌≡◌, Contains, IfErr, IfOk};
-ghost use Rattle.syn_visit_kinds.specs.Nodes.{map_operands};
-ghost use Rattle.syn_expr_spec.specs.Tree.{Tree};
+ghost use Rattle.std.specs.Prelude.{Contains};
 ghost use Rattle.syn_expr_ast.specs.View.{expr_array_of, expr_group_of, expr_paren_of, expr_repeat_of, expr_tuple_of};
-ghost use Rattle.syn_visit_kinds.specs.Calls.{Leaves, Refused, Takes};
+ghost use Rattle.syn_visit_kinds.specs.Calls.{Takes};
+ghost use Rattle.syn_visit_kinds.specs.Changes.{Change, ChangedIn};
 
 use crate::operands::{boxed_mut, punctuated_mut};
 use syn_expr_ast::alone::HasExprTree;
@@ -18,11 +17,9 @@ pub fn array_mut<E: HasExprTree, R: Drop, F: Fn(&mut E) -> Result<(), R>>(
 ) -> Result<(), R>
     requires elems { (q : _) → Contains x.old.elems.inner.items q → Takes (F.pre call.now) q.0 }
     requires last { ForSome x.old.elems.last (λ b. Takes (F.pre call.now) b.value) }
-    ensures tree { (f : Tree → Tree) → Leaves E.tree f (F.post call.now) → IfOk result (λ _. expr_array_of E.tree x.new ≡ map_operands f (expr_array_of E.tree x.old)) }
-    ensures refused { IfErr result (Refused (F.post call.now)) }
+    ensures { ChangedIn (Change E.tree (F.post call.now)) (expr_array_of E.tree x.old) result (expr_array_of E.tree x.new) }
 {
-    punctuated_mut(&mut x.elems, call)?;
-    Ok(())
+    punctuated_mut(&mut x.elems, call)
 }
 
 /// An invisible group
@@ -31,11 +28,9 @@ pub fn group_mut<E: HasExprTree, R: Drop, F: Fn(&mut E) -> Result<(), R>>(
     call: &F,
 ) -> Result<(), R>
     requires { Takes (F.pre call.now) x.old.expr.value }
-    ensures tree { (f : Tree → Tree) → Leaves E.tree f (F.post call.now) → IfOk result (λ _. expr_group_of E.tree x.new ≡ map_operands f (expr_group_of E.tree x.old)) }
-    ensures refused { IfErr result (Refused (F.post call.now)) }
+    ensures { ChangedIn (Change E.tree (F.post call.now)) (expr_group_of E.tree x.old) result (expr_group_of E.tree x.new) }
 {
-    boxed_mut(&mut x.expr, call)?;
-    Ok(())
+    boxed_mut(&mut x.expr, call)
 }
 
 /// `(a)`
@@ -44,11 +39,9 @@ pub fn paren_mut<E: HasExprTree, R: Drop, F: Fn(&mut E) -> Result<(), R>>(
     call: &F,
 ) -> Result<(), R>
     requires { Takes (F.pre call.now) x.old.expr.value }
-    ensures tree { (f : Tree → Tree) → Leaves E.tree f (F.post call.now) → IfOk result (λ _. expr_paren_of E.tree x.new ≡ map_operands f (expr_paren_of E.tree x.old)) }
-    ensures refused { IfErr result (Refused (F.post call.now)) }
+    ensures { ChangedIn (Change E.tree (F.post call.now)) (expr_paren_of E.tree x.old) result (expr_paren_of E.tree x.new) }
 {
-    boxed_mut(&mut x.expr, call)?;
-    Ok(())
+    boxed_mut(&mut x.expr, call)
 }
 
 /// `[a; n]`
@@ -58,12 +51,10 @@ pub fn repeat_mut<E: HasExprTree, R: Drop, F: Fn(&mut E) -> Result<(), R>>(
 ) -> Result<(), R>
     requires expr { Takes (F.pre call.now) x.old.expr.value }
     requires len { Takes (F.pre call.now) x.old.len.value }
-    ensures tree { (f : Tree → Tree) → Leaves E.tree f (F.post call.now) → IfOk result (λ _. expr_repeat_of E.tree x.new ≡ map_operands f (expr_repeat_of E.tree x.old)) }
-    ensures refused { IfErr result (Refused (F.post call.now)) }
+    ensures { ChangedIn (Change E.tree (F.post call.now)) (expr_repeat_of E.tree x.old) result (expr_repeat_of E.tree x.new) }
 {
     boxed_mut(&mut x.expr, call)?;
-    boxed_mut(&mut x.len, call)?;
-    Ok(())
+    boxed_mut(&mut x.len, call)
 }
 
 /// `(a, b)`
@@ -73,9 +64,7 @@ pub fn tuple_mut<E: HasExprTree, R: Drop, F: Fn(&mut E) -> Result<(), R>>(
 ) -> Result<(), R>
     requires elems { (q : _) → Contains x.old.elems.inner.items q → Takes (F.pre call.now) q.0 }
     requires last { ForSome x.old.elems.last (λ b. Takes (F.pre call.now) b.value) }
-    ensures tree { (f : Tree → Tree) → Leaves E.tree f (F.post call.now) → IfOk result (λ _. expr_tuple_of E.tree x.new ≡ map_operands f (expr_tuple_of E.tree x.old)) }
-    ensures refused { IfErr result (Refused (F.post call.now)) }
+    ensures { ChangedIn (Change E.tree (F.post call.now)) (expr_tuple_of E.tree x.old) result (expr_tuple_of E.tree x.new) }
 {
-    punctuated_mut(&mut x.elems, call)?;
-    Ok(())
+    punctuated_mut(&mut x.elems, call)
 }

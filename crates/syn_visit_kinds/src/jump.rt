@@ -1,11 +1,9 @@
 //! Jumps, with a value or without: the value is passed to a function.
 
 ghost use Rattle.std.specs.Option.{ForSome};
-ghost use Rattle.std.specs.Prelude.{◌≡◌, IfErr, IfOk};
-ghost use Rattle.syn_visit_kinds.specs.Nodes.{map_operands};
-ghost use Rattle.syn_expr_spec.specs.Tree.{Tree};
 ghost use Rattle.syn_expr_ast.specs.View.{expr_break_of, expr_return_of, expr_yield_of};
-ghost use Rattle.syn_visit_kinds.specs.Calls.{Leaves, Refused, Takes};
+ghost use Rattle.syn_visit_kinds.specs.Calls.{Takes};
+ghost use Rattle.syn_visit_kinds.specs.Changes.{Change, ChangedIn};
 
 use crate::operands::optional_mut;
 use syn_expr_ast::alone::HasExprTree;
@@ -17,11 +15,9 @@ pub fn break_expr_mut<E: HasExprTree, R: Drop, F: Fn(&mut E) -> Result<(), R>>(
     call: &F,
 ) -> Result<(), R>
     requires { ForSome x.old.expr (λ b. Takes (F.pre call.now) b.value) }
-    ensures tree { (f : Tree → Tree) → Leaves E.tree f (F.post call.now) → IfOk result (λ _. expr_break_of E.tree x.new ≡ map_operands f (expr_break_of E.tree x.old)) }
-    ensures refused { IfErr result (Refused (F.post call.now)) }
+    ensures { ChangedIn (Change E.tree (F.post call.now)) (expr_break_of E.tree x.old) result (expr_break_of E.tree x.new) }
 {
-    optional_mut(&mut x.expr, call)?;
-    Ok(())
+    optional_mut(&mut x.expr, call)
 }
 
 /// `return`, `return a`
@@ -30,11 +26,9 @@ pub fn return_expr_mut<E: HasExprTree, R: Drop, F: Fn(&mut E) -> Result<(), R>>(
     call: &F,
 ) -> Result<(), R>
     requires { ForSome x.old.expr (λ b. Takes (F.pre call.now) b.value) }
-    ensures tree { (f : Tree → Tree) → Leaves E.tree f (F.post call.now) → IfOk result (λ _. expr_return_of E.tree x.new ≡ map_operands f (expr_return_of E.tree x.old)) }
-    ensures refused { IfErr result (Refused (F.post call.now)) }
+    ensures { ChangedIn (Change E.tree (F.post call.now)) (expr_return_of E.tree x.old) result (expr_return_of E.tree x.new) }
 {
-    optional_mut(&mut x.expr, call)?;
-    Ok(())
+    optional_mut(&mut x.expr, call)
 }
 
 /// `yield`, `yield a`
@@ -43,9 +37,7 @@ pub fn yield_expr_mut<E: HasExprTree, R: Drop, F: Fn(&mut E) -> Result<(), R>>(
     call: &F,
 ) -> Result<(), R>
     requires { ForSome x.old.expr (λ b. Takes (F.pre call.now) b.value) }
-    ensures tree { (f : Tree → Tree) → Leaves E.tree f (F.post call.now) → IfOk result (λ _. expr_yield_of E.tree x.new ≡ map_operands f (expr_yield_of E.tree x.old)) }
-    ensures refused { IfErr result (Refused (F.post call.now)) }
+    ensures { ChangedIn (Change E.tree (F.post call.now)) (expr_yield_of E.tree x.old) result (expr_yield_of E.tree x.new) }
 {
-    optional_mut(&mut x.expr, call)?;
-    Ok(())
+    optional_mut(&mut x.expr, call)
 }

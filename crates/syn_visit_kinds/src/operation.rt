@@ -1,11 +1,9 @@
 //! Operators and their operands, each passed to a function.
 
 ghost use Rattle.std.specs.Option.{ForSome};
-ghost use Rattle.std.specs.Prelude.{◌≡◌, IfErr, IfOk};
-ghost use Rattle.syn_visit_kinds.specs.Nodes.{map_operands};
-ghost use Rattle.syn_expr_spec.specs.Tree.{Tree};
 ghost use Rattle.syn_expr_ast.specs.View.{expr_assign_of, expr_binary_of, expr_cast_of, expr_range_of, expr_raw_addr_of, expr_reference_of, expr_unary_of};
-ghost use Rattle.syn_visit_kinds.specs.Calls.{Leaves, Refused, Takes};
+ghost use Rattle.syn_visit_kinds.specs.Calls.{Takes};
+ghost use Rattle.syn_visit_kinds.specs.Changes.{Change, ChangedIn};
 
 use crate::operands::{boxed_mut, optional_mut};
 use syn_expr_ast::alone::HasExprTree;
@@ -21,12 +19,10 @@ pub fn assign_mut<E: HasExprTree, R: Drop, F: Fn(&mut E) -> Result<(), R>>(
 ) -> Result<(), R>
     requires left { Takes (F.pre call.now) x.old.left.value }
     requires right { Takes (F.pre call.now) x.old.right.value }
-    ensures tree { (f : Tree → Tree) → Leaves E.tree f (F.post call.now) → IfOk result (λ _. expr_assign_of E.tree x.new ≡ map_operands f (expr_assign_of E.tree x.old)) }
-    ensures refused { IfErr result (Refused (F.post call.now)) }
+    ensures { ChangedIn (Change E.tree (F.post call.now)) (expr_assign_of E.tree x.old) result (expr_assign_of E.tree x.new) }
 {
     boxed_mut(&mut x.left, call)?;
-    boxed_mut(&mut x.right, call)?;
-    Ok(())
+    boxed_mut(&mut x.right, call)
 }
 
 /// `a + b`, `a += b`
@@ -36,12 +32,10 @@ pub fn binary_mut<E: HasExprTree, R: Drop, F: Fn(&mut E) -> Result<(), R>>(
 ) -> Result<(), R>
     requires left { Takes (F.pre call.now) x.old.left.value }
     requires right { Takes (F.pre call.now) x.old.right.value }
-    ensures tree { (f : Tree → Tree) → Leaves E.tree f (F.post call.now) → IfOk result (λ _. expr_binary_of E.tree x.new ≡ map_operands f (expr_binary_of E.tree x.old)) }
-    ensures refused { IfErr result (Refused (F.post call.now)) }
+    ensures { ChangedIn (Change E.tree (F.post call.now)) (expr_binary_of E.tree x.old) result (expr_binary_of E.tree x.new) }
 {
     boxed_mut(&mut x.left, call)?;
-    boxed_mut(&mut x.right, call)?;
-    Ok(())
+    boxed_mut(&mut x.right, call)
 }
 
 /// `a as T`
@@ -50,11 +44,9 @@ pub fn cast_mut<E: HasExprTree, R: Drop, F: Fn(&mut E) -> Result<(), R>>(
     call: &F,
 ) -> Result<(), R>
     requires { Takes (F.pre call.now) x.old.expr.value }
-    ensures tree { (f : Tree → Tree) → Leaves E.tree f (F.post call.now) → IfOk result (λ _. expr_cast_of E.tree x.new ≡ map_operands f (expr_cast_of E.tree x.old)) }
-    ensures refused { IfErr result (Refused (F.post call.now)) }
+    ensures { ChangedIn (Change E.tree (F.post call.now)) (expr_cast_of E.tree x.old) result (expr_cast_of E.tree x.new) }
 {
-    boxed_mut(&mut x.expr, call)?;
-    Ok(())
+    boxed_mut(&mut x.expr, call)
 }
 
 /// `a..b`, `a..`, `..=b`, `..`
@@ -64,12 +56,10 @@ pub fn range_mut<E: HasExprTree, R: Drop, F: Fn(&mut E) -> Result<(), R>>(
 ) -> Result<(), R>
     requires starts { ForSome x.old.start (λ b. Takes (F.pre call.now) b.value) }
     requires ends { ForSome x.old.end (λ b. Takes (F.pre call.now) b.value) }
-    ensures tree { (f : Tree → Tree) → Leaves E.tree f (F.post call.now) → IfOk result (λ _. expr_range_of E.tree x.new ≡ map_operands f (expr_range_of E.tree x.old)) }
-    ensures refused { IfErr result (Refused (F.post call.now)) }
+    ensures { ChangedIn (Change E.tree (F.post call.now)) (expr_range_of E.tree x.old) result (expr_range_of E.tree x.new) }
 {
     optional_mut(&mut x.start, call)?;
-    optional_mut(&mut x.end, call)?;
-    Ok(())
+    optional_mut(&mut x.end, call)
 }
 
 /// `&raw const a`
@@ -78,11 +68,9 @@ pub fn raw_addr_mut<E: HasExprTree, R: Drop, F: Fn(&mut E) -> Result<(), R>>(
     call: &F,
 ) -> Result<(), R>
     requires { Takes (F.pre call.now) x.old.expr.value }
-    ensures tree { (f : Tree → Tree) → Leaves E.tree f (F.post call.now) → IfOk result (λ _. expr_raw_addr_of E.tree x.new ≡ map_operands f (expr_raw_addr_of E.tree x.old)) }
-    ensures refused { IfErr result (Refused (F.post call.now)) }
+    ensures { ChangedIn (Change E.tree (F.post call.now)) (expr_raw_addr_of E.tree x.old) result (expr_raw_addr_of E.tree x.new) }
 {
-    boxed_mut(&mut x.expr, call)?;
-    Ok(())
+    boxed_mut(&mut x.expr, call)
 }
 
 /// `&a`, `&mut a`
@@ -91,11 +79,9 @@ pub fn reference_mut<E: HasExprTree, R: Drop, F: Fn(&mut E) -> Result<(), R>>(
     call: &F,
 ) -> Result<(), R>
     requires { Takes (F.pre call.now) x.old.expr.value }
-    ensures tree { (f : Tree → Tree) → Leaves E.tree f (F.post call.now) → IfOk result (λ _. expr_reference_of E.tree x.new ≡ map_operands f (expr_reference_of E.tree x.old)) }
-    ensures refused { IfErr result (Refused (F.post call.now)) }
+    ensures { ChangedIn (Change E.tree (F.post call.now)) (expr_reference_of E.tree x.old) result (expr_reference_of E.tree x.new) }
 {
-    boxed_mut(&mut x.expr, call)?;
-    Ok(())
+    boxed_mut(&mut x.expr, call)
 }
 
 /// `*a`, `!a`, `-a`
@@ -104,9 +90,7 @@ pub fn unary_mut<E: HasExprTree, R: Drop, F: Fn(&mut E) -> Result<(), R>>(
     call: &F,
 ) -> Result<(), R>
     requires { Takes (F.pre call.now) x.old.expr.value }
-    ensures tree { (f : Tree → Tree) → Leaves E.tree f (F.post call.now) → IfOk result (λ _. expr_unary_of E.tree x.new ≡ map_operands f (expr_unary_of E.tree x.old)) }
-    ensures refused { IfErr result (Refused (F.post call.now)) }
+    ensures { ChangedIn (Change E.tree (F.post call.now)) (expr_unary_of E.tree x.old) result (expr_unary_of E.tree x.new) }
 {
-    boxed_mut(&mut x.expr, call)?;
-    Ok(())
+    boxed_mut(&mut x.expr, call)
 }

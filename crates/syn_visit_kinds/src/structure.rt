@@ -1,12 +1,13 @@
 //! Struct expressions and their fields: each operand is passed to a function.
 
 ghost use Rattle.std.specs.Option.{ForSome};
-ghost use Rattle.std.specs.Prelude.{◌≡◌, Contains, IfErr, IfOk, map};
-ghost use Rattle.syn_visit_kinds.specs.Nodes.{map_operands};
+ghost use Rattle.std.specs.Prelude.{◌≡◌, Contains, map};
 ghost use Rattle.syn_expr_spec.specs.Tree.{Tree};
 ghost use Rattle.syn_expr_ast.specs.View.{expr_struct_of, field_value_of};
+ghost use Rattle.syn_expr_ast.specs.declared.structure.FieldValueOf.{FieldValueOf};
 ghost use Rattle.syn_lower_leaves.specs.View.{trails, values};
-ghost use Rattle.syn_visit_kinds.specs.Calls.{Leaves, Refused, Takes};
+ghost use Rattle.syn_visit_kinds.specs.Calls.{Takes};
+ghost use Rattle.syn_visit_kinds.specs.Changes.{Change, Changed, ChangedIn};
 ghost use Rattle.syn_visit_kinds.specs.Parts.{map_field};
 
 use crate::operands::{one_mut, optional_mut, punctuated_mut};
@@ -21,11 +22,10 @@ fn field_value_mut<E: HasExprTree, R: Drop, F: Fn(&mut E) -> Result<(), R>>(
     call: &F,
 ) -> Result<(), R>
     requires { Takes (F.pre call.now) field.old.expr }
-    ensures field { (f : Tree → Tree) → Leaves E.tree f (F.post call.now) → IfOk result (λ _. field_value_of E.tree field.new ≡ map_field f (field_value_of E.tree field.old)) }
-    ensures refused { IfErr result (Refused (F.post call.now)) }
+    ensures changed { Change (λ y. y) (F.post call.now) field.old.expr result field.new.expr }
+    ensures around { (k : Tree) → map_field (λ _. k) (field_value_of E.tree field.new) ≡ map_field (λ _. k) (field_value_of E.tree field.old) }
 {
-    one_mut(&mut field.expr, call)?;
-    Ok(())
+    one_mut(&mut field.expr, call)
 }
 
 /// The values of fields.
@@ -35,19 +35,18 @@ fn fields_mut<E: HasExprTree, R: Drop, F: Fn(&mut E) -> Result<(), R>>(
 ) -> Result<(), R>
     requires inner { (q : _) → Contains x.old.inner.items q → Takes (F.pre call.now) q.0.expr }
     requires last { ForSome x.old.last (λ b. Takes (F.pre call.now) b.value.expr) }
-    ensures fields { (f : Tree → Tree) → Leaves E.tree f (F.post call.now) → IfOk result (λ _. map (field_value_of E.tree) (values x.new) ≡ map (map_field f) (map (field_value_of E.tree) (values x.old))) }
-    ensures trails { IfOk result (λ _. trails x.new ≡ trails x.old) }
-    ensures refused { IfErr result (Refused (F.post call.now)) }
+    ensures changed { Changed (Change (λ y. y) (F.post call.now)) (map (λ (y : FieldValueOf E). y.expr) (values x.old)) result (map (λ (y : FieldValueOf E). y.expr) (values x.new)) }
+    ensures around { (k : Tree) → map (map_field (λ _. k)) (map (field_value_of E.tree) (values x.new)) ≡ map (map_field (λ _. k)) (map (field_value_of E.tree) (values x.old)) }
+    ensures trails { trails x.new ≡ trails x.old }
 {
     punctuated_mut(
         x,
         &|field: &mut FieldValueOf<E>| -> Result<(), R>
             requires { Takes (F.pre call.now) field.old.expr }
-            ensures field { (f : Tree → Tree) → Leaves E.tree f (F.post call.entry.now) → IfOk result (λ _. field_value_of E.tree field.new ≡ map_field f (field_value_of E.tree field.old)) }
-            ensures refused { IfErr result (Refused (F.post call.entry.now)) }
+            ensures changed { Change (λ y. y) (F.post call.entry.now) field.old.expr result field.new.expr }
+            ensures around { (k : Tree) → map_field (λ _. k) (field_value_of E.tree field.new) ≡ map_field (λ _. k) (field_value_of E.tree field.old) }
         { field_value_mut(field, call) },
-    )?;
-    Ok(())
+    )
 }
 
 /// `S { a: 1, ..b }`
@@ -58,10 +57,8 @@ pub fn struct_expr_mut<E: HasExprTree, R: Drop, F: Fn(&mut E) -> Result<(), R>>(
     requires fields { (q : _) → Contains x.old.fields.inner.items q → Takes (F.pre call.now) q.0.expr }
     requires last { ForSome x.old.fields.last (λ b. Takes (F.pre call.now) b.value.expr) }
     requires others { ForSome x.old.rest (λ b. Takes (F.pre call.now) b.value) }
-    ensures tree { (f : Tree → Tree) → Leaves E.tree f (F.post call.now) → IfOk result (λ _. expr_struct_of E.tree x.new ≡ map_operands f (expr_struct_of E.tree x.old)) }
-    ensures refused { IfErr result (Refused (F.post call.now)) }
+    ensures { ChangedIn (Change E.tree (F.post call.now)) (expr_struct_of E.tree x.old) result (expr_struct_of E.tree x.new) }
 {
     fields_mut(&mut x.fields, call)?;
-    optional_mut(&mut x.rest, call)?;
-    Ok(())
+    optional_mut(&mut x.rest, call)
 }

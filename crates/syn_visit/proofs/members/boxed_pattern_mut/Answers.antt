@@ -1,8 +1,7 @@
-use Rattle.std.proofs.Common.{ap}
-use Rattle.std.proofs.lemmas.Result.{IfOk-equal}
+use Rattle.std.proofs.Common.{ap, refl, sym}
 use Rattle.syn_expr_core.specs.View.{pat_of}
-use Rattle.syn_visit_kinds.specs.Parts.{map_pat}
+use Rattle.syn_visit.proofs.Left.{guards_same}
 use Rattle.syn_visit.proofs.members.boxed_pattern_mut.Goals as goal
 
-pub returns-clause-view : goal.returns-clause-view
-returns-clause-view g c = λ f leaves. IfOk-equal _ _ _ _ (c.pattern_mut.ensures.view f leaves) (ap (λ p. map_pat f (pat_of p)) c.deref_mut.ensures.value)
+pub returns : goal.returns
+returns g c = guards_same (ap pat_of (sym c.deref_mut.ensures.value)) refl c.pattern_mut.ensures

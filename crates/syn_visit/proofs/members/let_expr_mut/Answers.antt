@@ -1,7 +1,14 @@
+use Rattle.std.proofs.Common.{[], ◌∷◌}
 use Rattle.syn_expr_core.specs.View.{tree_of}
-use Rattle.syn_visit_kinds.proofs.Calls.{left}
-use Rattle.syn_visit.proofs.Made.{let_made}
+use Rattle.syn_expr_core.specs.declared.control.ExprLet.{out-ExprLet}
+use Rattle.syn_visit_kinds.proofs.Changes.{change_shown, changed_both, changed_one, changed_stops}
+use Rattle.syn_visit.proofs.Left.{let_changed}
 use Rattle.syn_visit.proofs.members.let_expr_mut.Goals as goal
 
-pub returns-clause-tree : goal.returns-clause-tree
-returns-clause-tree g c = λ f leaves. let_made f c.args.x.now _ _ (c.in_ok-boxed_pattern_mut.ensures.view f leaves) (left tree_of f _ leaves _ _ c.in_ok-boxed_mut.ensures.left)
+pub returns-in_err-boxed_pattern_mut : goal.returns-in_err-boxed_pattern_mut
+returns-in_err-boxed_pattern_mut g c =
+    let whole = out-ExprLet c.args.x.now in
+    let_changed c.args.x.now _ whole.expr c.in_err-boxed_pattern_mut.ensures (changed_stops (tree_of whole.expr.value ∷ []) _ c.from_residual.ensures c.in_err-boxed_pattern_mut.ensures.guards)
+
+pub returns : goal.returns
+returns g c = let_changed c.args.x.now _ _ c.in_ok-boxed_pattern_mut.ensures (changed_both c.in_ok-boxed_pattern_mut.ensures.guards (changed_one _ (change_shown tree_of _ _ _ c.boxed_mut.ensures.changed)))

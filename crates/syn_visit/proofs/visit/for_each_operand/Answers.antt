@@ -2,7 +2,7 @@
 use Rattle.std.proofs.Common.{ap, ◌∙◌}
 use Rattle.syn_expr_core.specs.View.{tree_of}
 use Rattle.syn_expr_core.proofs.TreeOf as of
-use Rattle.syn_visit_kinds.proofs.Changed.{array_operands, assign_operands, await_operands, binary_operands, break_operands, call_operands, cast_operands, field_operands, group_operands, if_operands, index_operands, method_call_operands, paren_operands, range_expr_operands, raw_addr_operands, reference_operands, repeat_operands, return_operands, struct_operands, try_operands, tuple_operands, unary_operands, while_operands, yield_operands}
+use Rattle.syn_visit_kinds.proofs.OperandsOf.{array_operands, assign_operands, await_operands, binary_operands, break_operands, call_operands, cast_operands, field_operands, group_operands, if_operands, index_operands, method_call_operands, paren_operands, range_expr_operands, raw_addr_operands, reference_operands, repeat_operands, return_operands, struct_operands, try_operands, tuple_operands, unary_operands, while_operands, yield_operands}
 use Rattle.syn_visit_kinds.proofs.Walk.{walk_one}
 use Rattle.syn_visit.proofs.Seen.{at_arm, at_leaf, at_member, at_verbatim}
 use Rattle.syn_visit.proofs.visit.for_each_operand.Goals as goal

@@ -1,20 +1,13 @@
-use Rattle.std.proofs.Common.{sym, ap, ◌∙◌}
-use Rattle.std.proofs.lemmas.Result.{IfOk-equal}
-use Rattle.syn_expr_core.specs.View.{tree_of}
-use Rattle.syn_visit_kinds.specs.Nodes.{rewrite_tree}
-use Rattle.syn_visit_kinds.proofs.Answered.{handed_error, refused_answer}
-use Rattle.syn_visit_kinds.proofs.Levels.{rewrite_level}
-use Rattle.syn_visit.proofs.Made.{left_same, refused_at}
+use Rattle.std.proofs.Common.{refl}
+use Rattle.syn_visit_kinds.proofs.Rewritten.{in_by, inside_stops, then_itself}
+use Rattle.syn_visit.proofs.Left.{node_changed}
 use Rattle.syn_visit.proofs.visit_mut.+nodes.Goals as goal
 
-pub returns-clause-tree : goal.returns-clause-tree
-returns-clause-tree g t c = λ f leaves.
-    let inside = c.in_ok-for_each_operand_mut_with.ensures.tree (rewrite_tree f) (λ old new with r is met. met.0 f (left_same is (λ d x b y. g.F.Fn.post d.call.now (x, tt) (b, (y, tt))) f leaves)) in
-    IfOk-equal _ _ _ _ (leaves _ _ _ c.call.ensures) (ap f inside ∙ sym (rewrite_level f (tree_of c.args.expr.now)))
+pub returns-in_err-for_each_operand_mut_with : goal.returns-in_err-for_each_operand_mut_with
+returns-in_err-for_each_operand_mut_with g t c =
+    inside_stops _ _ c.from_residual.ensures (in_by (node_changed (λ d x b y. g.F.Fn.post d.call.now (x, tt) (b, (y, tt))) (λ old with r new met. met)) c.in_err-for_each_operand_mut_with.ensures.changed)
 
-pub returns-clause-refused : goal.returns-clause-refused
-returns-clause-refused g t c = refused_answer _ _ c.call.ensures
-
-pub returns-in_err-for_each_operand_mut_with-clause-refused : goal.returns-in_err-for_each_operand_mut_with-clause-refused
-returns-in_err-for_each_operand_mut_with-clause-refused g t c =
-    handed_error _ _ _ c.from_residual.ensures (refused_at c.in_err-for_each_operand_mut_with.ensures.refused (λ d x b y. g.F.Fn.post d.call.now (x, tt) (b, (y, tt))) (λ old with e new met. met.1))
+pub returns : goal.returns
+returns g t c =
+    then_itself _ (in_by (node_changed (λ d x b y. g.F.Fn.post d.call.now (x, tt) (b, (y, tt))) (λ old with r new met. met)) c.in_ok-for_each_operand_mut_with.ensures.changed)
+    (record { old = _; new = _; shows = refl; leaves = refl; met = c.call.ensures })

@@ -1,9 +1,10 @@
-use Rattle.std.proofs.Common.{ap}
 use Rattle.syn_expr_spec.specs.Tree as e
-use Rattle.syn_expr_spec.specs.Tree.{frame}
-use Rattle.syn_visit_kinds.proofs.Calls.{lefts}
-use Rattle.syn_visit_kinds.proofs.Made.{attributed_made, elements_made}
+use Rattle.syn_visit_kinds.proofs.Around.{attributed_around, frame_around, list_around}
+use Rattle.syn_visit_kinds.proofs.OperandsOf.{changed_in, array_operands}
 use Rattle.syn_visit_kinds.proofs.atom.array_mut.Goals as goal
 
-pub returns-clause-tree : goal.returns-clause-tree
-returns-clause-tree g c = λ f leaves. let tree = g.E.HasExprTree.tree in attributed_made f _ _ _ (ap (frame e.array) (elements_made f tree _ _ (lefts tree f _ leaves _ _ c.in_ok-punctuated_mut.ensures.values) c.in_ok-punctuated_mut.ensures.trails))
+pub returns : goal.returns
+returns g c =
+    let tree = g.E.HasExprTree.tree in
+    changed_in tree c.punctuated_mut.ensures.changed (array_operands tree c.args.x.now) (array_operands tree (record c.args.x.now { elems = c.punctuated_mut.new.x }))
+    (attributed_around _ _ _ (frame_around e.array _ _ (list_around tree c.args.x.now.elems c.punctuated_mut.new.x c.punctuated_mut.ensures.changed c.punctuated_mut.ensures.trails)))

@@ -1,9 +1,9 @@
-use Rattle.std.proofs.Common.{ap}
-use Rattle.syn_expr_spec.specs.Tree as e
-use Rattle.syn_expr_spec.specs.Tree.{frame, child, none}
-use Rattle.syn_visit_kinds.proofs.Calls.{left}
-use Rattle.syn_visit_kinds.proofs.Made.{attributed_made}
+use Rattle.syn_visit_kinds.proofs.Around.{among, attributed_around, child_among, frame_around}
+use Rattle.syn_visit_kinds.proofs.Changes.{changed_one}
+use Rattle.syn_visit_kinds.proofs.OperandsOf.{changed_in, group_operands}
 use Rattle.syn_visit_kinds.proofs.atom.group_mut.Goals as goal
 
-pub returns-clause-tree : goal.returns-clause-tree
-returns-clause-tree g c = λ f leaves. let tree = g.E.HasExprTree.tree in attributed_made f _ _ _ (ap (λ t. frame e.group_expr (child e.grouped e.no_ending t none)) (left tree f _ leaves _ _ c.in_ok-boxed_mut.ensures.left))
+pub returns : goal.returns
+returns g c =
+    let tree = g.E.HasExprTree.tree in
+    changed_in tree (changed_one _ c.boxed_mut.ensures.changed) (group_operands tree c.args.x.now) (group_operands tree (record c.args.x.now { expr = c.boxed_mut.new.x })) (attributed_around _ _ _ (frame_around _ _ _ (child_among _ _ _ _ _ _ (among _))))

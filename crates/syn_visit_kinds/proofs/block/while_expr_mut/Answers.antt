@@ -1,11 +1,9 @@
-use Rattle.std.proofs.Common.{ap, refl}
-use Rattle.syn_lower.specs.View.{mapped}
-use Rattle.syn_expr_tokens.specs.View.{label_of}
-use Rattle.syn_expr_spec.specs.Tree as e
-use Rattle.syn_expr_spec.specs.Tree.{frame}
-use Rattle.syn_visit_kinds.proofs.Calls.{left}
-use Rattle.syn_visit_kinds.proofs.Made.{attributed_made, child_made}
+use Rattle.syn_visit_kinds.proofs.Around.{among, attributed_around, child_among, frame_around}
+use Rattle.syn_visit_kinds.proofs.Changes.{changed_one}
+use Rattle.syn_visit_kinds.proofs.OperandsOf.{changed_in, while_operands}
 use Rattle.syn_visit_kinds.proofs.block.while_expr_mut.Goals as goal
 
-pub returns-clause-tree : goal.returns-clause-tree
-returns-clause-tree g c = λ f leaves. let tree = g.E.HasExprTree.tree in attributed_made f _ _ _ (ap (frame (e.while_loop (mapped label_of c.args.x.now.label))) (child_made e.loop_head _ (left tree f _ leaves _ _ c.in_ok-boxed_mut.ensures.left) refl))
+pub returns : goal.returns
+returns g c =
+    let tree = g.E.HasExprTree.tree in
+    changed_in tree (changed_one _ c.boxed_mut.ensures.changed) (while_operands tree c.args.x.now) (while_operands tree (record c.args.x.now { cond = c.boxed_mut.new.x })) (attributed_around _ _ _ (frame_around _ _ _ (child_among _ _ _ _ _ _ (among _))))

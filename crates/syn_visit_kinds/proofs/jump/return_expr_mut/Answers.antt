@@ -1,6 +1,10 @@
-use Rattle.syn_visit_kinds.proofs.Calls.{left_option}
-use Rattle.syn_visit_kinds.proofs.Made.{attributed_made, jump_made}
+use Rattle.syn_expr_spec.specs.Tree as e
+use Rattle.syn_visit_kinds.proofs.Around.{attributed_around, jump_around}
+use Rattle.syn_visit_kinds.proofs.OperandsOf.{changed_in, return_operands}
 use Rattle.syn_visit_kinds.proofs.jump.return_expr_mut.Goals as goal
 
-pub returns-clause-tree : goal.returns-clause-tree
-returns-clause-tree g c = λ f leaves. let tree = g.E.HasExprTree.tree in attributed_made f _ _ _ (jump_made f _ _ _ (left_option tree f _ leaves _ _ c.in_ok-optional_mut.ensures.left))
+pub returns : goal.returns
+returns g c =
+    let tree = g.E.HasExprTree.tree in
+    changed_in tree c.optional_mut.ensures.changed (return_operands tree c.args.x.now) (return_operands tree (record c.args.x.now { expr = c.optional_mut.new.x }))
+    (attributed_around _ _ _ (jump_around tree e.returning c.args.x.now.expr c.optional_mut.new.x c.optional_mut.ensures.changed))

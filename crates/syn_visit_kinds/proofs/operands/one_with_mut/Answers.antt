@@ -1,9 +1,5 @@
 use Rattle.std.proofs.Common.{refl}
-use Rattle.syn_visit_kinds.proofs.Answered.{left_with_answer, refused_with_answer}
 use Rattle.syn_visit_kinds.proofs.operands.one_with_mut.Goals as goal
 
-pub returns-clause-left : goal.returns-clause-left
-returns-clause-left g c = left_with_answer _ _ c.call.ensures refl refl refl
-
-pub returns-clause-refused : goal.returns-clause-refused
-returns-clause-refused g c = refused_with_answer _ _ c.call.ensures refl
+pub returns : goal.returns
+returns g c = record { old = _; new = _; with = _; shows = refl; leaves = refl; passes = refl; met = c.call.ensures }

@@ -1,10 +1,9 @@
-use Rattle.std.proofs.Common.{ap}
-use Rattle.syn_lower.specs.View.{type_of}
-use Rattle.syn_expr_spec.specs.Tree as e
-use Rattle.syn_expr_spec.specs.Tree.{postfixed}
-use Rattle.syn_visit_kinds.proofs.Calls.{left}
-use Rattle.syn_visit_kinds.proofs.Made.{attributed_made}
+use Rattle.syn_visit_kinds.proofs.Around.{attributed_around, postfixed_around}
+use Rattle.syn_visit_kinds.proofs.Changes.{changed_one}
+use Rattle.syn_visit_kinds.proofs.OperandsOf.{changed_in, cast_operands}
 use Rattle.syn_visit_kinds.proofs.operation.cast_mut.Goals as goal
 
-pub returns-clause-tree : goal.returns-clause-tree
-returns-clause-tree g c = λ f leaves. let tree = g.E.HasExprTree.tree in attributed_made f _ _ _ (ap (λ t. postfixed t (e.cast (type_of c.args.x.now.ty.value))) (left tree f _ leaves _ _ c.in_ok-boxed_mut.ensures.left))
+pub returns : goal.returns
+returns g c =
+    let tree = g.E.HasExprTree.tree in
+    changed_in tree (changed_one _ c.boxed_mut.ensures.changed) (cast_operands tree c.args.x.now) (cast_operands tree (record c.args.x.now { expr = c.boxed_mut.new.x })) (attributed_around _ _ _ (postfixed_around _ _ _))

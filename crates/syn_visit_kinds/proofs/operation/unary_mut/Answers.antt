@@ -1,7 +1,9 @@
-use Rattle.std.proofs.Common.{refl}
-use Rattle.syn_visit_kinds.proofs.Calls.{left}
-use Rattle.syn_visit_kinds.proofs.Made.{attributed_made, prefix_made}
+use Rattle.syn_visit_kinds.proofs.Around.{attributed_around, prefixed_around}
+use Rattle.syn_visit_kinds.proofs.Changes.{changed_one}
+use Rattle.syn_visit_kinds.proofs.OperandsOf.{changed_in, unary_operands}
 use Rattle.syn_visit_kinds.proofs.operation.unary_mut.Goals as goal
 
-pub returns-clause-tree : goal.returns-clause-tree
-returns-clause-tree g c = λ f leaves. let tree = g.E.HasExprTree.tree in attributed_made f _ _ _ (prefix_made _ refl (left tree f _ leaves _ _ c.in_ok-boxed_mut.ensures.left))
+pub returns : goal.returns
+returns g c =
+    let tree = g.E.HasExprTree.tree in
+    changed_in tree (changed_one _ c.boxed_mut.ensures.changed) (unary_operands tree c.args.x.now) (unary_operands tree (record c.args.x.now { expr = c.boxed_mut.new.x })) (attributed_around _ _ _ (prefixed_around _ _ _ _))

@@ -1,11 +1,7 @@
 use Rattle.syn_lower_spec.specs.Pat as t
 use Rattle.syn_lower.specs.View.{type_of}
-use Rattle.syn_visit_kinds.specs.Parts.{map_pat}
-use Rattle.syn_visit_kinds.proofs.Calls.{left_with}
-use Rattle.syn_visit_kinds.proofs.Pats.{one_made}
+use Rattle.syn_visit_kinds.proofs.Pats.{one_changed}
 use Rattle.syn_visit_kinds.proofs.pat.typed_mut.Goals as goal
 
-pub returns-clause-view : goal.returns-clause-view
-returns-clause-view g c = λ f leaves.
-    let left = left_with g.P.HasPatTree.view (map_pat f) _ _ leaves _ _ c.in_ok-boxed_with_mut.ensures.left in
-    one_made f (λ p. t.typed p (type_of c.args.x.now.ty.value)) c.args.x.now.attrs _ _ left
+pub returns : goal.returns
+returns g c = one_changed g.P.HasPatTree.view (λ p. t.typed p (type_of c.args.x.now.ty.value)) c.args.x.now.attrs _ c.boxed_with_mut.ensures.changed

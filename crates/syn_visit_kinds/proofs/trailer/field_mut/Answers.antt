@@ -1,7 +1,9 @@
-use Rattle.std.proofs.Common.{refl}
-use Rattle.syn_visit_kinds.proofs.Calls.{left}
-use Rattle.syn_visit_kinds.proofs.Made.{attributed_made, tail_made}
+use Rattle.syn_visit_kinds.proofs.Around.{among, attributed_around, tail_around}
+use Rattle.syn_visit_kinds.proofs.Changes.{changed_one}
+use Rattle.syn_visit_kinds.proofs.OperandsOf.{changed_in, field_operands}
 use Rattle.syn_visit_kinds.proofs.trailer.field_mut.Goals as goal
 
-pub returns-clause-tree : goal.returns-clause-tree
-returns-clause-tree g c = λ f leaves. let tree = g.E.HasExprTree.tree in attributed_made f _ _ _ (tail_made _ (left tree f _ leaves _ _ c.in_ok-boxed_mut.ensures.left) refl)
+pub returns : goal.returns
+returns g c =
+    let tree = g.E.HasExprTree.tree in
+    changed_in tree (changed_one _ c.boxed_mut.ensures.changed) (field_operands tree c.args.x.now) (field_operands tree (record c.args.x.now { base = c.boxed_mut.new.x })) (attributed_around _ _ _ (tail_around _ _ _ _ _ (among _)))

@@ -1,9 +1,9 @@
-use Rattle.std.proofs.Common.{ap}
-use Rattle.syn_expr_spec.specs.Tree as e
-use Rattle.syn_expr_spec.specs.Tree.{tail, none}
-use Rattle.syn_visit_kinds.proofs.Calls.{left}
-use Rattle.syn_visit_kinds.proofs.Made.{attributed_made}
+use Rattle.syn_visit_kinds.proofs.Around.{among, attributed_around, tail_around}
+use Rattle.syn_visit_kinds.proofs.Changes.{changed_one}
+use Rattle.syn_visit_kinds.proofs.OperandsOf.{changed_in, try_operands}
 use Rattle.syn_visit_kinds.proofs.trailer.try_expr_mut.Goals as goal
 
-pub returns-clause-tree : goal.returns-clause-tree
-returns-clause-tree g c = λ f leaves. let tree = g.E.HasExprTree.tree in attributed_made f _ _ _ (ap (λ t. tail t e.try_expr none) (left tree f _ leaves _ _ c.in_ok-boxed_mut.ensures.left))
+pub returns : goal.returns
+returns g c =
+    let tree = g.E.HasExprTree.tree in
+    changed_in tree (changed_one _ c.boxed_mut.ensures.changed) (try_operands tree c.args.x.now) (try_operands tree (record c.args.x.now { expr = c.boxed_mut.new.x })) (attributed_around _ _ _ (tail_around _ _ _ _ _ (among _)))

@@ -1,6 +1,7 @@
 -- The operands of each kind of node, by its parts and by the struct of the kind.
-use Rattle.std.proofs.Common.{◌≡◌, Bool, false, not, ◌&&◌, List, [], ◌∷◌, ◌++◌, map, flat_map, Option, Some, None, is_some, refl, sym, ap, ◌∙◌}
+use Rattle.std.proofs.Common.{◌≡◌, Bool, false, not, ◌&&◌, List, [], ◌∷◌, ◌++◌, map, flat_map, Option, Some, None, is_some, Result, refl, sym, ap, ◌∙◌}
 use Rattle.std.proofs.lemmas.List.{append-nil, append_assoc, map-append}
+use denote.Ref.{MutBor}
 use Rattle.std.specs.declared.boxed.Box.{Box}
 use Rattle.std.specs.declared.alloc.Global.{Global}
 use Rattle.std.proofs.lemmas.List.Folds.{flat_map-map}
@@ -48,8 +49,10 @@ use Rattle.syn_expr_ast.specs.declared.pattern.ExprClosureOf.{ExprClosureOf}
 use Rattle.syn_expr_ast.specs.declared.pattern.ExprForLoopOf.{ExprForLoopOf}
 use Rattle.syn_expr_ast.specs.declared.pattern.ExprLetOf.{ExprLetOf}
 use Rattle.syn_expr_ast.specs.declared.pattern.ExprMatchOf.{ExprMatchOf}
+use Rattle.syn_visit_kinds.specs.Changes.{Change, Changed, ChangedIn, SameAround}
 use Rattle.syn_visit_kinds.specs.Nodes.{child_operands, operands_in}
 use Rattle.syn_visit_kinds.specs.Parts.{arm_operands, else_operand}
+use Rattle.syn_visit_kinds.proofs.Changes.{change_shown, changed_map, changed_same}
 
 -- ---- the operands of a node
 
@@ -132,6 +135,11 @@ else_shown f (Some q) = refl
 map_both : {A B C : Type 0} (h : B → C) (k : A → B) (xs : List A) → map h (map k xs) ≡ map (λ x. h (k x)) xs
 map_both h k [] = refl
 map_both h k (x ∷ xs) = ap (λ l. h (k x) ∷ l) (map_both h k xs)
+
+-- where these are passed to a call
+pub changed_in : {E R : Type 0} (h : E → Tree) {post : MutBor E → Result (Unit {0}) R → MutBor E → Type 0} {xs ys : List E} {t u : Tree} {r : Result (Unit {0}) R} → Changed (Change (λ z. z) post) xs r ys
+    → HasOperands t (map h xs) → HasOperands u (map h ys) → SameAround t u → ChangedIn (Change h post) t r u
+changed_in h c old new around = record { operands = changed_same old.are new.are (changed_map h (change_shown h) c); around = around }
 
 module _ {E : Type 0} (f : E → Tree) where
   pub array_operands : (x : ExprArrayOf E) → HasOperands (expr_array_of f x) (map f (values x.elems))
@@ -219,10 +227,13 @@ module _ {E : Type 0} (f : E → Tree) where
       ∙ sym (map-append f (map (λ (y : FieldValueOf E). y.expr) (values x.fields)) (last_of x.rest)))
 
 module _ {E P : Type 0} (f : E → Tree) (g : P → PatView) where
+  pub closure_viewed : (x : ExprClosureOf E P) → HasOperands (expr_closure_of f g x) (guards (map g (values x.inputs)) ++ f x.body.value ∷ [])
+  closure_viewed x =
+      after (attrs_of x.attrs) (closure_by (return_of x.output) (closure_head_of g x) (guards (map g (values x.inputs))) (f x.body.value)) _
+      (closure_operands (return_of x.output) (closure_head_of g x) (guards (map g (values x.inputs))) (f x.body.value))
+
   pub closure_expr_operands : (x : ExprClosureOf E P) → HasOperands (expr_closure_of f g x) (flat_map (λ y. (g y).guards) (values x.inputs) ++ f x.body.value ∷ [])
-  closure_expr_operands x =
-      after (attrs_of x.attrs) (closure_by (return_of x.output) (closure_head_of g x) (guards (map g (values x.inputs))) (f x.body.value)) _ (closure_operands (return_of x.output) (closure_head_of g x) (guards (map g (values x.inputs))) (f x.body.value)
-      ∙ ap (λ l. l ++ f x.body.value ∷ []) (flat_map-map (λ (v : PatView). v.guards) g (values x.inputs)))
+  closure_expr_operands x = record { are = (closure_viewed x).are ∙ ap (λ l. l ++ f x.body.value ∷ []) (flat_map-map (λ (v : PatView). v.guards) g (values x.inputs)) }
 
   pub for_loop_operands : (x : ExprForLoopOf E P) → HasOperands (expr_for_loop_of f g x) ((g x.pat.value).guards ++ f x.expr.value ∷ [])
   for_loop_operands x =
@@ -233,5 +244,8 @@ module _ {E P : Type 0} (f : E → Tree) (g : P → PatView) where
   let_operands x = after (attrs_of x.attrs) (prefixed (e.let_expr (g x.pat.value).tree) (strays (g x.pat.value).guards none) (f x.expr.value)) _ (ap (λ l. l ++ f x.expr.value ∷ []) (prefix_operands (g x.pat.value).guards))
 
 module _ {E A : Type 0} (f : E → Tree) (a : A → ArmView) where
+  pub match_viewed : (x : ExprMatchOf E A) → HasOperands (expr_match_of f a x) (f x.expr.value ∷ flat_map arm_operands (map a x.arms.items))
+  match_viewed x = after (outer_of x.attrs) (frame e.match_expr (child e.scrutinee (e.opened (inner_of x.attrs)) (f x.expr.value) (arms (map a x.arms.items)))) _ (ap (λ l. f x.expr.value ∷ l) (arms_operands (map a x.arms.items)))
+
   pub match_operands : (x : ExprMatchOf E A) → HasOperands (expr_match_of f a x) (f x.expr.value ∷ flat_map (λ y. arm_operands (a y)) x.arms.items)
-  match_operands x = after (outer_of x.attrs) (frame e.match_expr (child e.scrutinee (e.opened (inner_of x.attrs)) (f x.expr.value) (arms (map a x.arms.items)))) _ (ap (λ l. f x.expr.value ∷ l) (arms_operands (map a x.arms.items) ∙ flat_map-map arm_operands a x.arms.items))
+  match_operands x = record { are = (match_viewed x).are ∙ ap (λ l. f x.expr.value ∷ l) (flat_map-map arm_operands a x.arms.items) }
