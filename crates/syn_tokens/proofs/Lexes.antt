@@ -10,6 +10,7 @@ use Rattle.syn_tokens.specs.Tok.{Tok}
 use Rattle.syn_tokens.specs.Lex.{Piece, pieces, pieces_from, lexeme_pieces, then_pieces, flat, Spells, open_behind, refusal_behind, refusal_at_end, refusal_from, refusal, IsRefusedAs}
 use Rattle.syn_tokens.specs.Input.{Gives}
 use Rattle.syn_tokens.specs.Nest.{misfits}
+use Rattle.syn_tokens.specs.Spans.{IsWithin}
 use Rattle.syn_tokens.proofs.Nests.{one_list}
 use Rattle.syn_tokens.specs.declared.error.Error.{Error}
 use Rattle.syn_tokens.specs.declared.error.ErrorKind.TheVariants.{OutOfMemory}
@@ -132,3 +133,7 @@ pub finished : (o : Option LexError) (r : Result (List Tok) Error) → MatchResu
     → MatchResult r (λ _. o ≡ None) (λ e. (e.kind ≡ OutOfMemory) ⊎ IsRefusedAs o e.kind)
 finished o (Ok s) h = h
 finished o (Err e) h = inr h
+
+pub or_within : (text : List ℕ) (r : Result (List Tok) Error) → IfErr r (λ e. IsWithin text e.span) → IfErr r (λ e. (e.kind ≡ OutOfMemory) ⊎ IsWithin text e.span)
+or_within text (Ok s) h = tt
+or_within text (Err e) h = inr h

@@ -1,12 +1,15 @@
 -- How the pieces that were read grow, and which can never be those of trees.
-use Rattle.std.proofs.Common.{◌≡◌, List, [], ◌∷◌, ◌++◌, refl, sym, ◌∙◌, ap, append_assoc, append-nil}
+use Rattle.std.proofs.Common.{◌≡◌, ◌<◌, ℕ, List, [], ◌∷◌, ◌++◌, length, refl, sym, ◌∙◌, ap, subst, append_assoc, append-nil}
 use Rattle.std.specs.Prelude.{◌≢◌, Option, Some, None, if◌then◌else◌}
 use Rattle.syn_lexer.specs.declared.front.Delimiter.{Delimiter}
+use Rattle.syn_lexer.specs.declared.front.LexemeKind.{LexemeKind}
+use Rattle.syn_lexer.specs.declared.front.LexemeKind.TheVariants as kind
 use Rattle.syn_tokens.specs.Front.{same_delimiter}
 use Rattle.syn_tokens.specs.Same.{same_delimiter-refl, same_delimiter-false}
 use Rattle.syn_tokens.specs.Tok.{Tok, Inside, ident, punct, literal, group, nothing, first, inside}
 use Rattle.syn_tokens.specs.Lex.{Piece, leaf, opens, closes, flat, pieces_of, pieces_inside}
-use Rattle.syn_tokens.specs.Nest.{Open, opened, unfinished, delimiters, misfits}
+use Rattle.syn_tokens.specs.Nest.{Open, opened, unfinished, delimiters, misfits, places, places_behind, BeginWithin}
+use Rattle.syn_tokens.specs.declared.lexer.Open as code
 
 flat-append : (a b : List Tok) → flat (a ++ b) ≡ flat a ++ flat b
 flat-append [] b = refl
@@ -100,6 +103,25 @@ misfits_open os o ts us h =
     let all = unfinished (os ++ o ∷ []) ts in
     let one : run [] (all ++ []) ≡ Some (o.0 ∷ delimiters os []) = run_unfinished (os ++ o ∷ []) ts [] ∙ rw (delimiters-append os o []) refl in
     let two : Some (o.0 ∷ delimiters os []) ≡ Some [] = sym one ∙ ap (run []) (append-nil all ∙ h) ∙ run_all us in cc
+
+-- ---- where the open groups begin
+
+pub places-append : (os : List code.Open) (o : code.Open) (ps : List ℕ) → places (os ++ o ∷ []) ps ≡ o.at ∷ places os ps
+places-append [] o ps = refl
+places-append (p ∷ os) o ps = places-append os o (p.at ∷ ps)
+
+pub begin_behind : (text : List ℕ) (k : LexemeKind) (at : ℕ) (ps : List ℕ) → at < length text → BeginWithin text ps → BeginWithin text (places_behind k at ps)
+begin_behind text kind.Blank at ps h b = b
+begin_behind text kind.Ident at ps h b = b
+begin_behind text kind.Literal at ps h b = b
+begin_behind text kind.Lifetime at ps h b = b
+begin_behind text (kind.Punct c s) at ps h b = b
+begin_behind text (kind.Open d) at ps h b = (h, b)
+begin_behind text (kind.Close d) at [] h b = tt
+begin_behind text (kind.Close d) at (p ∷ ps) h b = b.1
+
+pub opening_begins : (text : List ℕ) (os : List code.Open) (o : code.Open) → BeginWithin text (places (os ++ o ∷ []) []) → o.at < length text
+opening_begins text os o b = (subst (BeginWithin text) (places-append os o []) b).0
 
 -- ---- trees with the same pieces are the same
 

@@ -1,5 +1,5 @@
 -- The characters of a text and the bytes that they are in.
-use Rattle.std.proofs.Common.{◌≡◌, Bool, ℕ, ◌+◌, ◌-◌, ◌≤◌, List, [], ◌∷◌, ◌++◌, length, take, drop, true, refl, sym, ◌∙◌, ap, append_assoc, arith, encode_utf8_all, chars}
+use Rattle.std.proofs.Common.{◌≡◌, Bool, ℕ, ◌+◌, ◌-◌, ◌≤◌, ◌<◌, List, [], ◌∷◌, ◌++◌, length, take, drop, true, refl, sym, ◌∙◌, ap, append_assoc, arith, encode_utf8_all, chars}
 use Rattle.std.specs.Str.{IsUtf8, IsCharBoundary, all_scalars}
 use Rattle.std.proofs.lemmas.Bool.{and_parts}
 use Rattle.std.proofs.lemmas.List.{length-append, length-drop, drop-drop, drop_at, take_at, take-append-drop}
@@ -69,6 +69,12 @@ pub left_size : (bytes : List ℕ) (at : ℕ) (cs : List ℕ) → AreLeft bytes 
 left_size bytes at cs l =
     let sizes : length bytes - at ≡ length (encode_utf8_all cs) = sym (length-drop at bytes) ∙ ap length l.left in
     let within = l.within in
+    omega arith
+
+pub left_within : (bytes : List ℕ) (at : ℕ) (cs : List ℕ) → AreLeft bytes at cs → 0 < length cs → at < length bytes
+left_within bytes at cs l h =
+    let size = left_size bytes at cs l in
+    let each = length-le-encodes cs in
     omega arith
 
 pub front_size : (n : ℕ) (cs : List ℕ) → length (encode_utf8_all (take n cs)) ≤ length (encode_utf8_all cs)

@@ -1,9 +1,13 @@
--- From where the first of some tokens begins to where the last one ends.
-use Rattle.std.specs.Prelude.{◌≡◌, ◌≢◌, ℕ, Option, None, MatchOption, IsSomeAnd, List, [], ◌∷◌}
+-- Spans that lie within a text, and those from where the first of some tokens begins to where the last one ends.
+use Rattle.std.specs.Prelude.{◌≡◌, ◌≢◌, ◌≤◌, ℕ, Option, None, MatchOption, IsSomeAnd, List, [], ◌∷◌, length}
 use Rattle.syn_tokens.specs.Tok.{Tok}
 use Rattle.syn_tokens.specs.declared.tree.Span.{Span}
 use Rattle.syn_tokens.specs.declared.tree.TokenTree.{TokenTree}
 use Rattle.syn_tokens.specs.declared.tree.TokenTree.TheVariants.{Group, Ident, Punct, Literal}
+
+-- A span lies within the bytes of a text: it does not end before it begins, nor behind the text.
+abbrev pub IsWithin : List ℕ → Span → Type 0
+IsWithin text s = (s.lo ≤ s.hi) × (s.hi ≤ length text)
 
 -- A tree begins at this byte; of words and literals contracts see no place.
 abbrev pub BeginsAt : TokenTree → ℕ → Type 0

@@ -1,11 +1,12 @@
 //! Cuts a text into token trees.
 
-ghost use Rattle.std.specs.Prelude.{◌≡◌, ◌≢◌, ◌≤◌, ◌<◌, ◌+◌, ◌^◌, ◌++◌, ◌∷◌, ◌⊎◌, [], List, true, length, chars, encode_utf8_all, IfOk, IfErr, OnOk, MatchResult};
+ghost use Rattle.std.specs.Prelude.{◌≡◌, ◌≢◌, ◌≤◌, ◌<◌, ◌+◌, ◌^◌, ◌++◌, ◌∷◌, ◌⊎◌, [], ℕ, List, true, length, drop, chars, encode_utf8_all, IfOk, IfErr, OnOk, MatchResult};
 ghost use Rattle.std.specs.Rc.{rc_str_bytes};
 ghost use Rattle.std.specs.Str.{IsAscii};
 ghost use Rattle.syn_tokens.specs.Input.{Gives};
 ghost use Rattle.syn_tokens.specs.Lex as spec;
-ghost use Rattle.syn_tokens.specs.Nest.{nest_pieces, delimiters_of, misfits};
+ghost use Rattle.syn_tokens.specs.Nest.{nest_pieces, delimiters_of, places_of, places_behind, BeginWithin, misfits};
+ghost use Rattle.syn_tokens.specs.Spans.{IsWithin};
 ghost use Rattle.syn_tokens.specs.Standing.{AreLeft, StandAt};
 ghost use Rattle.syn_tokens.specs.Tok.{Tok};
 ghost use Rattle.syn_tokens.specs.View.{tok_of};
@@ -35,6 +36,8 @@ pub fn lex(alloc: Global, text: &str) -> Result<TokenStream>
     ensures refused { IfErr result (λ e. (e.kind ≡ ErrorKind.OutOfMemory) ⊎ ((ts : List Tok) → spec.Spells (chars text.now) ts → ⊥)) }
     // The refusal is the first one in the text.
     ensures kind { MatchResult result (λ _. spec.refusal (chars text.now) ≡ None) (λ e. (e.kind ≡ ErrorKind.OutOfMemory) ⊎ spec.IsRefusedAs (spec.refusal (chars text.now)) e.kind) }
+    // Its place lies within the text.
+    ensures place { IfErr result (λ e. (e.kind ≡ ErrorKind.OutOfMemory) ⊎ IsWithin text.now e.span) }
 {
     let shared = RcStr::from_str(alloc, text)?;
     let all = chars_of(alloc, text)?;
@@ -106,7 +109,8 @@ fn past_read(is_narrow: bool, at: usize, z: &[char]) -> usize
 }
 
 fn refusal(lo: usize, hi: usize, error: LexError) -> Error
-    ensures { result.kind ≡ ErrorKind.Lex error }
+    ensures kind { result.kind ≡ ErrorKind.Lex error }
+    ensures place { result.span ≡ record { lo = lo; hi = hi } }
 {
     Error {
         span: Span { lo, hi },
@@ -118,7 +122,8 @@ fn refusal(lo: usize, hi: usize, error: LexError) -> Error
 fn refused_front(at: usize, rest: &[char], refused: Refusal) -> Error
     requires within { refused.len ≤ length rest.now }
     requires small { at + length (encode_utf8_all rest.now) < 2 ^ 64 }
-    ensures { result.kind ≡ ErrorKind.Lex refused.error }
+    ensures kind { result.kind ≡ ErrorKind.Lex refused.error }
+    ensures place { (result.span.lo ≡ at) × (at ≤ result.span.hi) × (result.span.hi ≤ at + length (encode_utf8_all rest.now)) }
 {
     let (read, _) = rest.split_at(refused.len);
     refusal(at, past(at, read), refused.error)
@@ -145,6 +150,7 @@ impl Nest {
     fn new(alloc: Global) -> Nest
         ensures nothing { nest_pieces result ≡ [] }
         ensures open { delimiters_of result ≡ [] }
+        ensures places { places_of result ≡ [] }
     {
         Nest {
             open: Vec::new(alloc),
@@ -155,6 +161,7 @@ impl Nest {
     fn leaf(&mut self, tree: TokenTree) -> Result<()>
         ensures ok { OnOk result (nest_pieces self.new ≡ nest_pieces self.old ++ spec.pieces_of (tok_of tree)) }
         ensures open { delimiters_of self.new ≡ delimiters_of self.old }
+        ensures places { places_of self.new ≡ places_of self.old }
         ensures err { IfErr result (λ e. e.kind ≡ ErrorKind.OutOfMemory) }
     {
         self.current.push(tree)?;
@@ -167,6 +174,7 @@ impl Nest {
         requires stands { StandAt (rc_str_bytes text.now) span.lo span.hi read.now }
         ensures ok { OnOk result (nest_pieces self.new ≡ nest_pieces self.old ++ spec.lexeme_pieces LexemeKind.Lifetime read.now) }
         ensures open { delimiters_of self.new ≡ delimiters_of self.old }
+        ensures places { places_of self.new ≡ places_of self.old }
         ensures err { IfErr result (λ e. e.kind ≡ ErrorKind.OutOfMemory) }
     {
         let (mark, _) = read.split_at(1);
@@ -190,6 +198,7 @@ impl Nest {
     fn opens(&mut self, delimiter: Delimiter, at: usize) -> Result<()>
         ensures ok { OnOk result (nest_pieces self.new ≡ nest_pieces self.old ++ spec.opens delimiter ∷ []) }
         ensures open { OnOk result (delimiters_of self.new ≡ delimiter ∷ delimiters_of self.old) }
+        ensures places { OnOk result (places_of self.new ≡ at ∷ places_of self.old) }
         ensures err { IfErr result (λ e. e.kind ≡ ErrorKind.OutOfMemory) }
     {
         let none = TokenStream::new(self.current.alloc());
@@ -205,8 +214,10 @@ impl Nest {
     fn closes(&mut self, delimiter: Delimiter, span: Span) -> Result<()>
         ensures ok { OnOk result (nest_pieces self.new ≡ nest_pieces self.old ++ spec.closes delimiter ∷ []) }
         ensures open { OnOk result (spec.open_behind (LexemeKind.Close delimiter) (delimiters_of self.old) ≡ Some (delimiters_of self.new)) }
+        ensures places { OnOk result (places_of self.new ≡ drop 1 (places_of self.old)) }
         ensures err { IfErr result (λ e. (e.kind ≡ ErrorKind.OutOfMemory) ⊎ misfits (nest_pieces self.old ++ spec.closes delimiter ∷ [])) }
         ensures kind { IfErr result (λ e. (e.kind ≡ ErrorKind.OutOfMemory) ⊎ ((spec.open_behind (LexemeKind.Close delimiter) (delimiters_of self.old) ≡ None) × (e.kind ≡ ErrorKind.Lex LexError.UnexpectedClosingDelimiter))) }
+        ensures place { IfErr result (λ e. (e.kind ≡ ErrorKind.OutOfMemory) ⊎ (e.span ≡ span)) }
     {
         let Some(open) = self.open.pop() else {
             return Err(refusal(span.lo, span.hi, LexError::UnexpectedClosingDelimiter));
@@ -243,8 +254,10 @@ impl Nest {
         requires stands { StandAt (rc_str_bytes text.now) span.lo span.hi read.now }
         ensures ok { OnOk result (nest_pieces self.new ≡ nest_pieces self.old ++ spec.lexeme_pieces kind read.now) }
         ensures open { OnOk result (spec.open_behind kind (delimiters_of self.old) ≡ Some (delimiters_of self.new)) }
+        ensures places { OnOk result (places_of self.new ≡ places_behind kind span.lo (places_of self.old)) }
         ensures err { IfErr result (λ e. (e.kind ≡ ErrorKind.OutOfMemory) ⊎ misfits (nest_pieces self.old ++ spec.lexeme_pieces kind read.now)) }
         ensures kind { IfErr result (λ e. (e.kind ≡ ErrorKind.OutOfMemory) ⊎ ((spec.open_behind kind (delimiters_of self.old) ≡ None) × (e.kind ≡ ErrorKind.Lex LexError.UnexpectedClosingDelimiter))) }
+        ensures place { IfErr result (λ e. (e.kind ≡ ErrorKind.OutOfMemory) ⊎ (e.span ≡ span)) }
     {
         match kind {
             LexemeKind::Blank => Ok(()),
@@ -269,6 +282,7 @@ impl Nest {
     fn finish(self) -> Result<TokenStream>
         ensures value { MatchResult result (λ s. nest_pieces self ≡ spec.flat s) (λ e. (ts : List Tok) → nest_pieces self ≢ spec.flat ts) }
         ensures kind { MatchResult result (λ _. spec.refusal_at_end (delimiters_of self) ≡ None) (λ e. spec.IsRefusedAs (spec.refusal_at_end (delimiters_of self)) e.kind) }
+        ensures place { (text : List ℕ) → BeginWithin text (places_of self) → IfErr result (λ e. IsWithin text e.span) }
     {
         let Nest { mut open, current } = self;
         match open.pop() {
@@ -288,6 +302,7 @@ fn lex_chars(alloc: Global, text: &RcStr<Global>, all: &[char]) -> Result<TokenS
     ensures read { IfOk result (λ s. spec.Spells all.now s) }
     ensures refused { IfErr result (λ e. (e.kind ≡ ErrorKind.OutOfMemory) ⊎ ((ts : List Tok) → spec.Spells all.now ts → ⊥)) }
     ensures kind { MatchResult result (λ _. spec.refusal all.now ≡ None) (λ e. (e.kind ≡ ErrorKind.OutOfMemory) ⊎ spec.IsRefusedAs (spec.refusal all.now) e.kind) }
+    ensures place { IfErr result (λ e. (e.kind ≡ ErrorKind.OutOfMemory) ⊎ IsWithin (rc_str_bytes text.now) e.span) }
 {
     // Most texts are ASCII, and no character of theirs has to be measured.
     let is_narrow = text.len() == all.len();

@@ -15,3 +15,6 @@ pub returns-clause-kind : goal.returns-clause-kind
 returns-clause-kind c =
     let same : c.as_slice.result.now ≡ chars c.args.text.now = c.as_slice.ensures.value ∙ c.in_ok-all.ensures in
     rw (← same) c.lex_chars.ensures.kind
+
+pub returns-clause-place : goal.returns-clause-place
+returns-clause-place c = rw (← c.in_ok-shared.ensures.ok) c.lex_chars.ensures.place

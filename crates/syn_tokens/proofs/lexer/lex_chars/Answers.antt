@@ -1,11 +1,12 @@
-use Rattle.std.proofs.Common.{◌≡◌, ◌∙◌, ◌<◌, length, refl, arith, inl, inr}
+use Rattle.std.proofs.Common.{◌≡◌, ◌∙◌, ◌<◌, ◌+◌, length, take, encode_utf8_all, refl, ap, arith, inl, inr}
 use Rattle.std.proofs.lemmas.Grind.{common_steps}
 use Rattle.std.proofs.lemmas.Bool.{eqb-true}
 use Rattle.std.specs.Rc.{rc_str_bytes}
-use Rattle.syn_tokens.proofs.Standing.{left_size, next_left, next_stand, next_size, next_narrow}
-use Rattle.syn_tokens.specs.Nest.{nest_pieces, delimiters_of}
+use Rattle.syn_tokens.proofs.Standing.{left_size, left_within, next_left, next_stand, next_size, next_narrow}
+use Rattle.syn_tokens.proofs.Nests.{begin_behind}
+use Rattle.syn_tokens.specs.Nest.{nest_pieces, delimiters_of, places_of}
 use Rattle.syn_tokens.specs.Lex.{pieces, refusal_at_end}
-use Rattle.syn_tokens.proofs.Lexes.{found, refused, so_far_more, refused_front, refused_lexeme, all_read, then_nothing, refusal_is, refusal_step, refusal_step-refused, refusal_end, finished}
+use Rattle.syn_tokens.proofs.Lexes.{found, refused, so_far_more, refused_front, refused_lexeme, all_read, then_nothing, refusal_is, refusal_step, refusal_step-refused, refusal_end, finished, or_within}
 use Rattle.syn_tokens.proofs.lexer.lex_chars.Goals as goal
 
 pub loop-rest-init : goal.loop-rest-init
@@ -18,6 +19,7 @@ loop-rest-init c = record {
       let count = eqb-true c.len.result (length c.args.all.now) is in
       omega arith;
   refusal_is = rw c.new-nest.ensures.open (refusal_is c.args.all.now);
+  begin_within = rw c.new-nest.ensures.places tt;
 }
 
 pub loop-rest-preserved : goal.loop-rest-preserved
@@ -33,6 +35,9 @@ loop-rest-preserved c =
           (c.loop-rest.invariant.refusal_is
           ∙ refusal_step (delimiters_of c.loop-rest.nest) c.loop-rest.rest.now c.in-Ok.lexeme.kind c.in-Ok.lexeme.len more c.in-Ok.ensures.within.0 c.in-Ok.ensures.value
           ∙ rw c.in_default.ensures.open refl);
+      begin_within = rw c.in_default.ensures.places
+          (begin_behind (rc_str_bytes c.args.text.now) c.in-Ok.lexeme.kind c.loop-rest.at (places_of c.loop-rest.nest)
+          (left_within (rc_str_bytes c.args.text.now) c.loop-rest.at c.loop-rest.rest.now c.loop-rest.invariant.left more) c.loop-rest.invariant.begin_within);
     }
 
 pub returns-in-Err-clause-refused : goal.returns-in-Err-clause-refused
@@ -45,7 +50,7 @@ returns-in-Err-clause-kind c =
     let more : 0 < length c.loop-rest.rest.now = grind (arith, common_steps) in
     let is = c.loop-rest.invariant.refusal_is
     ∙ refusal_step-refused (delimiters_of c.loop-rest.nest) c.loop-rest.rest.now c.in-Err.e.error c.in-Err.e.len more c.in-Err.ensures.refused in
-    inr (rw is c.refused_front.ensures)
+    inr (rw is c.refused_front.ensures.kind)
 
 pub returns-in-Err-take-clause-refused : goal.returns-in-Err-take-clause-refused
 returns-in-Err-take-clause-refused c =
@@ -66,6 +71,23 @@ returns-in-Err-take-clause-kind c =
       | inr closes ↦ inr (rw (is, closes.0) closes.1)
     ]
 
+pub returns-in-Err-clause-place : goal.returns-in-Err-clause-place
+returns-in-Err-clause-place c =
+    let size = left_size (rc_str_bytes c.args.text.now) c.loop-rest.at c.loop-rest.rest.now c.loop-rest.invariant.left in
+    let lo = c.refused_front.ensures.place.0 in
+    let order = c.refused_front.ensures.place.1 in
+    let hi = c.refused_front.ensures.place.2 in
+    inr (omega arith, omega arith)
+
+pub returns-in-Err-take-clause-place : goal.returns-in-Err-take-clause-place
+returns-in-Err-take-clause-place c =
+    let size = next_size (rc_str_bytes c.args.text.now) c.loop-rest.at c.in-Ok.lexeme.len c.loop-rest.rest.now c.loop-rest.invariant.left in
+    let end : c.past_read-end.result ≡ c.loop-rest.at + length (encode_utf8_all (take c.in-Ok.lexeme.len c.loop-rest.rest.now)) = rw (← c.split_at.ensures.front) c.past_read-end.ensures in
+    elim c.in-Err-take.ensures.place [
+      | inl m ↦ inl m
+      | inr place ↦ let lo = ap (λ s. s.lo) place in let hi = ap (λ s. s.hi) place in inr (omega arith, omega arith)
+    ]
+
 pub returns-clause-read : goal.returns-clause-read
 returns-clause-read c =
     let none : length c.loop-rest.rest.now ≡ 0 = grind (arith, common_steps) in
@@ -81,6 +103,9 @@ returns-clause-kind c =
     let none : length c.loop-rest.rest.now ≡ 0 = grind (arith, common_steps) in
     let is = c.loop-rest.invariant.refusal_is ∙ refusal_end (delimiters_of c.loop-rest.nest) c.loop-rest.rest.now none in
     rw is (finished (refusal_at_end (delimiters_of c.loop-rest.nest)) c.finish.result c.finish.ensures.kind)
+
+pub returns-clause-place : goal.returns-clause-place
+returns-clause-place c = or_within (rc_str_bytes c.args.text.now) c.finish.result (c.finish.ensures.place (rc_str_bytes c.args.text.now) c.loop-rest.invariant.begin_within)
 
 pub past_read-end-requires-clause-small : goal.past_read-end-requires-clause-small
 past_read-end-requires-clause-small c =

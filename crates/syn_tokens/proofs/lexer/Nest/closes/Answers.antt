@@ -1,7 +1,7 @@
 use Rattle.std.proofs.Common.{◌≡◌, [], inr, map, refl, sym, ◌∙◌}
 use Rattle.std.proofs.lemmas.List.{map-append}
 use Rattle.syn_tokens.specs.Nest.{open_of}
-use Rattle.syn_tokens.proofs.Nests.{misfits_alone, misfits_other, unfinished-closes, delimiters-append}
+use Rattle.syn_tokens.proofs.Nests.{misfits_alone, misfits_other, unfinished-closes, delimiters-append, places-append}
 use Rattle.syn_tokens.proofs.Views.{no_items}
 use Rattle.syn_tokens.proofs.lexer.Nest.closes.Goals as goal
 
@@ -37,7 +37,7 @@ returns-then-not-is_same-clause-kind c =
         ← c.if-not-is_same.ensures.value,
       )
           refl,
-      c.refusal-then-not-is_same.ensures,
+      c.refusal-then-not-is_same.ensures.kind,
     )
 
 pub returns-clause-open : goal.returns-clause-open
@@ -49,3 +49,6 @@ returns-clause-open c =
       ← c.if-not-is_same.ensures.value,
     )
     refl
+
+pub returns-clause-places : goal.returns-clause-places
+returns-clause-places c = rw (c.in-Some.ensures.items, places-append c.pop.new.self.items c.in-Some.open []) refl

@@ -1,7 +1,8 @@
-use Rattle.std.proofs.Common.{◌≡◌, [], map, refl, sym, ◌∙◌}
+use Rattle.std.proofs.Common.{◌≡◌, ◌<◌, ◌^◌, [], map, ap, arith, refl, sym, ◌∙◌}
+use Rattle.std.proofs.lemmas.Grind.{common_steps}
 use Rattle.std.proofs.lemmas.List.{map-append}
 use Rattle.syn_tokens.specs.Nest.{open_of}
-use Rattle.syn_tokens.proofs.Nests.{misfits_open, delimiters-append}
+use Rattle.syn_tokens.proofs.Nests.{misfits_open, delimiters-append, opening_begins}
 use Rattle.syn_tokens.proofs.Views.{no_items}
 use Rattle.syn_tokens.proofs.lexer.Nest.finish.Goals as goal
 
@@ -16,4 +17,13 @@ returns-clause-value c = λ ts. rw (c.in-Some.ensures.items, map-append open_of 
 pub returns-clause-kind : goal.returns-clause-kind
 returns-clause-kind c =
     rw (c.in-Some.ensures.items, map-append open_of c.pop.new.self.items _, delimiters-append (map open_of c.pop.new.self.items) (open_of c.in-Some.open) [])
-    c.refusal.ensures
+    c.refusal.ensures.kind
+
+pub returns-clause-place : goal.returns-clause-place
+returns-clause-place c = λ text begun.
+    let begins = opening_begins text c.pop.new.self.items c.in-Some.open (rw (← c.in-Some.ensures.items) begun) in
+    let lo = ap (λ s. s.lo) c.refusal.ensures.place in
+    let hi = ap (λ s. s.hi) c.refusal.ensures.place in
+    let end = c.saturating_add.ensures in
+    let fits : c.in-Some.open.at < 2 ^ 64 = grind (arith, common_steps) in
+    (grind arith, grind arith)
