@@ -565,8 +565,6 @@ taken_while = placed (λ t. t.while_expr) (expr_while_of tree_of) is_while (take
 pub taken_yield : (t : Taken) (o : Option (ExprYieldOf Expr)) → o ≡ t.yield_expr → (v : Expr) → t ≡ taken_of v → IsStruct (expr_yield_of tree_of) is_yield v o
 taken_yield = placed (λ t. t.yield_expr) (expr_yield_of tree_of) is_yield (taken_kind ex.Yield (λ t. t.yield_expr) (expr_yield_of tree_of) is_yield k_yield yield_kind tree-Yield yield_is (λ e. elim [ Expr-F.Yield x ↦ inl (x, ex.rolls-Yield x, refl) | _ ↦ inr (refl, λ h. cc) ]))
 
-pub ruleset takes = (taken_array, taken_assign, taken_await, taken_binary, taken_break, taken_call, taken_cast, taken_closure, taken_field, taken_for_loop, taken_if, taken_index, taken_let, taken_match, taken_method_call, taken_paren, taken_range, taken_raw_addr, taken_repeat, taken_return, taken_try, taken_tuple, taken_unary, taken_while, taken_yield)
-
 -- ---- invisible groups
 
 -- a group, after attributes too
