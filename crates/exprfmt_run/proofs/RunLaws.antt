@@ -1,7 +1,7 @@
 -- Facts of calls, and what a fault writes.
 use Rattle.std.proofs.Common.{◌≡◌, inl, inr, ℕ, Bool, true, false, List, [], ◌∷◌, ◌++◌, length, take, drop, refl, sym, ap, ◌∙◌, subst, append_assoc, append-nil, take-append-drop, arith}
 use Rattle.std.specs.Prelude.{Option, Some, None, Result, Ok, Err, chars, codes}
-use Rattle.std.specs.Fn.{Mut, Called, CalledAt}
+use Rattle.std.specs.Fn.{Mut, Called}
 use Rattle.std.specs.Str.{IsUtf8}
 use Rattle.std.specs.Fmt.{WritesInCalls}
 use Rattle.std.specs.Fmt.InlineText.{inline_text, IsIntact, AppendsIfIntact}

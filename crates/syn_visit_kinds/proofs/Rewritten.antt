@@ -4,7 +4,7 @@ use Rattle.std.proofs.Common.{◌≡◌, List, [], ◌∷◌, ◌++◌, map, Res
 use Rattle.std.proofs.lemmas.Result.{err_from_is_err_and}
 use Rattle.syn_expr_spec.specs.Tree.{Tree}
 use Rattle.syn_visit_kinds.specs.Nodes.{map_operands, rewrite_tree}
-use Rattle.syn_visit_kinds.specs.Changes.{Changed, ended, refused, went, ChangedIn, Rewritten, SameAround}
+use Rattle.syn_visit_kinds.specs.Changes.{Changed, ended, refused, went, ChangedIn, Rewritten}
 use Rattle.syn_visit_kinds.specs.Changes as c
 use Rattle.syn_visit_kinds.proofs.Changes.{changed_all, changed_by}
 use Rattle.syn_visit_kinds.proofs.Levels.{rewrite_level}
