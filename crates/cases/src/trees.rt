@@ -66,7 +66,8 @@ pub fn debug(alloc: Global, expr: &Expr) -> Result<String> {
     Ok(format!(in alloc; "{expr:?}")?)
 }
 
-/// The tidy text of an expression in a position, if this text is read as what is printed of the expression.
+/// The tidy text of an expression in a position. It is read again: if `expr_to_text` then answers another text than before, the
+/// answer is `another tree`.
 pub fn tidied(alloc: Global, position: &str, expr: &Expr) -> Result<String> {
     let position = named(position).unwrap_or(Position::Plain);
     let printed = expr_to_text(alloc, expr, position)?;

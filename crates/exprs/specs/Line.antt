@@ -15,7 +15,7 @@ meant true t = flatten t
 abbrev pub IsPrinted : Position → Tree → List ℕ → Type 0
 IsPrinted s t bytes = (cs : List ℕ) × IsTextOf s t cs × (bytes ≡ cs ++ 10 ∷ [])
 
--- a layout of what is printed of a tree in the position, and a newline after it
+-- The tokens that are printed for the tree in this position, with white space that keeps them apart: `a.b(&x)`. A newline follows.
 abbrev pub IsTidied : Position → Tree → List ℕ → Type 0
 IsTidied s t bytes = (cs : List ℕ) × IsLaidOut s t cs × (bytes ≡ cs ++ 10 ∷ [])
 

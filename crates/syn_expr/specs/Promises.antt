@@ -63,8 +63,8 @@ IsTextOf s t bytes = (ts : List Tok) × PrintedAs s t ts × (bytes ≡ text ts)
 abbrev pub IsLaidOut : Position → Tree → List ℕ → Type 0
 IsLaidOut s t bytes = (ts : List Tok) × PrintedAs s t ts × IsLayout ts (chars bytes)
 
--- The bytes are read by themselves as the same tree, up to parentheses and fill-ins, and as no other; and they are a layout of
--- what is printed of this one in the position.
+-- These bytes alone are read as a tree that is the same up to parentheses and fill-ins, and as no other. They are also a layout
+-- of the tokens that are printed for that tree in the position.
 abbrev pub IsLaidOutAgain : Position → Tree → List ℕ → Type 0
 IsLaidOutAgain s t bytes =
     (x : Tree) × IsSameTree t x × IsReadAs in_plain bytes x [] × ((y : Tree) (n : List Tok) → IsReadAs in_plain bytes y n → (y ≡ x) × (n ≡ []))

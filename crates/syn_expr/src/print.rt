@@ -93,8 +93,8 @@ pub fn expr_to_text(alloc: Global, expr: &Expr, position: Position) -> Result<St
 pub fn tidy_text(alloc: Global, expr: &Expr, position: Position) -> Result<String>
     // It lays out the tokens that are printed of the expression in this position.
     ensures layout { IfOk result (λ s. IsLaidOut (position_of position) (tree_of expr.now) (string_bytes s)) }
-    // Of a well-formed expression whose leaves are lexed, the text is lexed, and read by itself as the same tree; and it lays out
-    // what is printed of this one in this position.
+    // For a well-formed expression whose words, literals and kept tokens are such as `lex` makes: this text alone is read as a
+    // tree that is the same up to parentheses and fill-ins. It also lays out the tokens that are printed for that tree.
     ensures again { IfOk result (λ s. is_well_formed (tree_of expr.now) ≡ true → leaves_lexed (tree_of expr.now) ≡ true → IsLaidOutAgain (position_of position) (tree_of expr.now) (string_bytes s)) }
     ensures memory { IfErr result (λ e. e.kind ≡ ErrorKind.OutOfMemory) }
 {
